@@ -1,0 +1,5 @@
+pub mod Answers
+pub mod Fault
+pub mod Line
+pub mod Pattern
+pub mod Reading

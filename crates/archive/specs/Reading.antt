@@ -1,0 +1,186 @@
+-- Reading a text line by line, in the order in which the rules ask: for each due line, is there one (13), has it
+-- its form (9), is the version 1 (10), are its numbers in range (11), does it obey the numbering rule (12); and
+-- behind the end line, is the text at its end (14).
+use mathlib.Core.Bool.{Bool, true, cond, _&&_}
+use mathlib.Core.List.{List, [], _∷_}
+use Prim.Native.Nat.{ℕ, zero, suc, _+_, max}
+use lib.Chars.{codes}
+use lib.Dec.{leb, ltb, eqb}
+use lib.ListN.{length}
+use Rattle.std.specs.shelf.Text.{sameBytes}
+use Rattle.std.specs.declared.option.Option.{Option}
+use Rattle.std.specs.declared.option.Option.the-variants.{Some, None}
+use Rattle.std.specs.declared.result.Result.{Result}
+use Rattle.std.specs.declared.result.Result.the-variants.{Ok, Err}
+use Rattle.text.specs.Cut.{cutAt}
+use Rattle.text.specs.Number.{numberIn}
+use Rattle.cells.specs.declared.content.Content.{Content}
+use Rattle.cells.specs.declared.content.Content.the-variants.{Nothing, Yarn, Cell}
+use Rattle.cells.specs.declared.content.Joint.{Joint}
+use Rattle.cells.specs.declared.content.Joint.the-variants.{Beside, Above}
+use Rattle.archive.specs.declared.cell.PatternCell.{PatternCell}
+use Rattle.archive.specs.declared.fault.LineFault.{LineFault}
+use Rattle.archive.specs.declared.fault.LineFault.the-variants.{Form, Range}
+use Rattle.archive.specs.declared.fault.FileFault.{FileFault}
+use Rattle.archive.specs.declared.fault.FileFault.the-variants.{OfLine, Version, Numbering, NoLine, Trailing}
+use Rattle.archive.specs.declared.reader.Reader.{Reader}
+use Rattle.archive.specs.Line.{Fields, header, cell, end, lineIn}
+use Rattle.archive.specs.Pattern.{Pattern}
+
+-- Fields as values.
+
+abbrev pub jointIn : List ℕ → Option Joint
+jointIn text = cond (sameBytes text (codes "b")) (Some Beside) (cond (sameBytes text (codes "a")) (Some Above) None)
+
+abbrev pub lettered : ℕ → Option ℕ → Option Content
+lettered letter None = None
+lettered letter (Some n) = cond (eqb letter 121) (Some (Yarn n)) (cond (eqb letter 99) (Some (Cell n)) None)
+
+-- `-` with nothing behind it, or `y` or `c` with a number
+abbrev pub byLetter : ℕ → List ℕ → Option Content
+byLetter letter digits = cond (eqb letter 45) (cond (eqb (length digits) 0) (Some Nothing) None) (lettered letter (numberIn digits))
+
+abbrev pub contentIn : List ℕ → Option Content
+contentIn [] = None
+contentIn (letter ∷ digits) = byLetter letter digits
+
+-- go on with what is there
+abbrev pub given : {X Y : Type 0} → Option X → (X → Option Y) → Option Y
+given None more = None
+given (Some x) more = more x
+
+abbrev pub headerNumbers : Fields → Option (ℕ × ℕ)
+headerNumbers (header version count) = given (numberIn version) (λ v. given (numberIn count) (λ n. Some (v, n)))
+headerNumbers (cell joint left right) = None
+headerNumbers (end count) = None
+
+abbrev pub cellValues : Fields → Option PatternCell
+cellValues (header version count) = None
+cellValues (cell joint left right) =
+    given (jointIn joint) (λ j. given (contentIn left) (λ l. given (contentIn right) (λ r. Some (record { joint = j; left = l; right = r }))))
+cellValues (end count) = None
+
+abbrev pub endCount : Fields → Option ℕ
+endCount (header version count) = None
+endCount (cell joint left right) = None
+endCount (end count) = numberIn count
+
+-- Ranges and numbering.
+
+-- 1 to 16,384 cells
+abbrev pub countFits : ℕ → Bool
+countFits n = leb 1 n && leb n 16384
+
+-- a yarn that exists, or one of n cells
+abbrev pub contentFits : ℕ → Content → Bool
+contentFits n Nothing = true
+contentFits n (Yarn y) = leb y 4095
+contentFits n (Cell k) = ltb k n
+
+-- the greatest number named once a content is read, or none where it names a number that is not yet due
+abbrev pub goesOn : ℕ → Content → Option ℕ
+goesOn greatest Nothing = Some greatest
+goesOn greatest (Yarn y) = Some greatest
+goesOn greatest (Cell k) = cond (leb k (greatest + 1)) (Some (max greatest k)) None
+
+-- the greatest number named once the line of cell i is read, or none where that line breaks the numbering rule
+abbrev pub lineGoesOn : ℕ → ℕ → PatternCell → Option ℕ
+lineGoesOn i greatest c = cond (leb i greatest) (given (goesOn greatest (c .left)) (λ g. goesOn g (c .right))) None
+
+-- Line by line.
+
+-- a place in a text: how many cells it announces, which of them is due, the greatest number named so far, and the
+-- text from the due line on
+pub record Place : Type 0 where
+  pub count : ℕ
+  pub next : ℕ
+  pub greatest : ℕ
+  pub rest : List ℕ
+
+abbrev pub placeOf : Reader → Place
+placeOf r = record { count = r .count; next = r .next; greatest = r .greatest; rest = r .rest .now }
+
+-- the number of the due line: behind the header and the lines of the cells before
+abbrev pub lineDue : Place → ℕ
+lineDue p = p .next + 2
+
+abbrev pub andThen : {X Y E : Type 0} → Result X E → (X → Result Y E) → Result Y E
+andThen (Ok x) more = more x
+andThen (Err e) more = Err e
+
+abbrev pub orFault : {X E : Type 0} → Option X → E → Result X E
+orFault None e = Err e
+orFault (Some x) e = Ok x
+
+abbrev pub unless : {X E : Type 0} → Bool → E → Result X E → Result X E
+unless good e more = cond good more (Err e)
+
+-- the due line as fields, and the text behind it: 13, then 9 for a line that is none of the three
+abbrev pub lineAt : ℕ → List ℕ → Result (Fields × List ℕ) FileFault
+lineAt line text =
+    andThen (orFault (cutAt 10 text) (NoLine line)) (λ cut.
+    andThen (orFault (lineIn (cut .0)) (OfLine (Form line))) (λ fields.
+    Ok (fields, cut .1)))
+
+-- the header: 13, 9, 10, 11
+abbrev pub opened : List ℕ → Result Place FileFault
+opened text =
+    andThen (lineAt 1 text) (λ line.
+    andThen (orFault (headerNumbers (line .0)) (OfLine (Form 1))) (λ numbers.
+    unless (eqb (numbers .0) 1) (Version 1) (
+    unless (countFits (numbers .1)) (OfLine (Range 1)) (
+    Ok (record { count = numbers .1; next = 0; greatest = 0; rest = line .1 })))))
+
+-- the line of the cell that is due: 13, 9, 11, 12
+abbrev pub cellDue : Place → Result (PatternCell × Place) FileFault
+cellDue p =
+    andThen (lineAt (lineDue p) (p .rest)) (λ line.
+    andThen (orFault (cellValues (line .0)) (OfLine (Form (lineDue p)))) (λ c.
+    unless (contentFits (p .count) (c .left) && contentFits (p .count) (c .right)) (OfLine (Range (lineDue p))) (
+    andThen (orFault (lineGoesOn (p .next) (p .greatest) c) (Numbering (lineDue p))) (λ g.
+    Ok (c, record { count = p .count; next = p .next + 1; greatest = g; rest = line .1 })))))
+
+-- the end line: 13, 9; and nothing behind it: 14
+abbrev pub finished : Place → Result ℕ FileFault
+finished p =
+    andThen (lineAt (lineDue p) (p .rest)) (λ line.
+    andThen (orFault (endCount (line .0)) (OfLine (Form (lineDue p)))) (λ n.
+    unless (eqb n (p .count)) (OfLine (Form (lineDue p))) (
+    unless (eqb (length (line .1)) 0) (Trailing (lineDue p + 1)) (
+    Ok (p .count)))))
+
+-- the lines of the next cells, as many as are due
+abbrev pub cellsFrom : ℕ → Place → Result (Pattern × Place) FileFault
+cellsFrom zero p = Ok ([], p)
+cellsFrom (suc due) p =
+    andThen (cellDue p) (λ first.
+    andThen (cellsFrom due (first .1)) (λ more.
+    Ok (first .0 ∷ more .0, more .1)))
+
+-- the pattern that a text is, or the first fault
+abbrev pub patternIn : List ℕ → Result Pattern FileFault
+patternIn text =
+    andThen (opened text) (λ p.
+    andThen (cellsFrom (p .count) p) (λ cells.
+    andThen (finished (cells .1)) (λ n.
+    Ok (cells .0))))
+
+-- the verdict: how many cells, or the first fault
+abbrev pub judged : List ℕ → Result ℕ FileFault
+judged text = andThen (patternIn text) (λ p. Ok (length p))
+
+-- A reader's step: the next cell, none behind the last; its place moves only where a cell was read.
+
+abbrev pub cellGiven : Result (PatternCell × Place) FileFault → Result (Option PatternCell) FileFault
+cellGiven (Ok read) = Ok (Some (read .0))
+cellGiven (Err e) = Err e
+
+abbrev pub nextCell : Place → Result (Option PatternCell) FileFault
+nextCell p = cond (leb (p .count) (p .next)) (Ok None) (cellGiven (cellDue p))
+
+abbrev pub movedOn : Place → Result (PatternCell × Place) FileFault → Place
+movedOn p (Ok read) = read .1
+movedOn p (Err e) = p
+
+abbrev pub placeAfter : Place → Place
+placeAfter p = cond (leb (p .count) (p .next)) p (movedOn p (cellDue p))

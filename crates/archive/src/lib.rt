@@ -1,0 +1,4 @@
+mod cell;
+mod fault;
+mod line;
+mod reader;
