@@ -1,4 +1,5 @@
 -- A line as its fields.
+use mathlib.Core.Path.{_≡_}
 use mathlib.Core.Bool.{cond}
 use mathlib.Core.List.{List, [], _∷_, _++_}
 use Prim.Native.Nat.{ℕ}
@@ -7,7 +8,7 @@ use Rattle.std.specs.Options.{isSome}
 use Rattle.std.specs.shelf.Text.{sameBytes}
 use Rattle.std.specs.declared.option.Option.{Option}
 use Rattle.std.specs.declared.option.Option.the-variants.{Some, None}
-use Rattle.text.specs.Cut.{cutAt}
+use Rattle.text.specs.Cut.{Lacks, cutAt}
 use Rattle.archive.specs.declared.line.Line.{Line}
 use Rattle.archive.specs.declared.line.Line.the-variants.{Header, Cell, End}
 
@@ -37,6 +38,16 @@ body (header version count) = tabbed (codes "pattern") (tabbed version count)
 body (cell joint left right) = tabbed (codes "cell") (tabbed joint (tabbed left right))
 body (end count) = tabbed (codes "end") count
 
+-- no field has a tab
+abbrev pub Tabless : Fields → Type 0
+Tabless (header version count) = Lacks 9 version × Lacks 9 count
+Tabless (cell joint left right) = Lacks 9 joint × Lacks 9 left × Lacks 9 right
+Tabless (end count) = Lacks 9 count
+
+-- The law of a line: the fields are the parts of the text between its tabs, behind the line's word.
+abbrev pub IsLine : List ℕ → Fields → Type 0
+IsLine text f = (text ≡ body f) × Tabless f
+
 -- one field and no second
 abbrev pub lastOf : List ℕ × List ℕ → Option (List ℕ × List ℕ)
 lastOf parts = cond (isSome (cutAt 9 (parts .1))) None (Some parts)
@@ -56,13 +67,13 @@ asHeader (Some parts) = Some (header (parts .0) (parts .1))
 abbrev pub headerIn : List ℕ → Option Fields
 headerIn text = asHeader (twoIn text)
 
-abbrev pub asCell : List ℕ → Option (List ℕ × List ℕ) → Option Fields
-asCell joint None = None
-asCell joint (Some parts) = Some (cell joint (parts .0) (parts .1))
+abbrev pub withJoint : List ℕ → Option (List ℕ × List ℕ) → Option Fields
+withJoint joint None = None
+withJoint joint (Some parts) = Some (cell joint (parts .0) (parts .1))
 
 abbrev pub afterJoint : Option (List ℕ × List ℕ) → Option Fields
 afterJoint None = None
-afterJoint (Some parts) = asCell (parts .0) (twoIn (parts .1))
+afterJoint (Some parts) = withJoint (parts .0) (twoIn (parts .1))
 
 abbrev pub cellIn : List ℕ → Option Fields
 cellIn text = afterJoint (cutAt 9 text)

@@ -96,3 +96,11 @@ pub record Numbered (p : Pattern) : Type 0 where
 pub record Writes (p : Pattern) (text : List ℕ) : Type 0 where
   pub numbered : Numbered p
   pub text-is : text ≡ patternText p
+
+-- The laws of judging. A text is accepted with count n exactly if it is the written text of a pattern of n cells ..
+abbrev pub WritesSome : ℕ → List ℕ → Type 0
+WritesSome n text = (p : Pattern) × (length p ≡ n) × Writes p text
+
+-- .. and it is the text of no other pattern.
+abbrev pub OnePattern : List ℕ → Type 0
+OnePattern text = (p q : Pattern) → Writes p text → Writes q text → p ≡ q

@@ -3,7 +3,7 @@
 -- behind the end line, is the text at its end (14).
 use mathlib.Core.Bool.{Bool, true, cond, _&&_}
 use mathlib.Core.List.{List, [], _∷_}
-use Prim.Native.Nat.{ℕ, zero, suc, _+_, max}
+use Prim.Native.Nat.{ℕ, zero, suc, _+_, _-_, max}
 use lib.Chars.{codes}
 use lib.Dec.{leb, ltb, eqb}
 use lib.ListN.{length}
@@ -116,54 +116,78 @@ abbrev pub unless : {X E : Type 0} → Bool → E → Result X E → Result X E
 unless good e more = cond good more (Err e)
 
 -- the due line as fields, and the text behind it: 13, then 9 for a line that is none of the three
-abbrev pub lineAt : ℕ → List ℕ → Result (Fields × List ℕ) FileFault
-lineAt line text =
-    andThen (orFault (cutAt 10 text) (NoLine line)) (λ cut.
-    andThen (orFault (lineIn (cut .0)) (OfLine (Form line))) (λ fields.
-    Ok (fields, cut .1)))
+abbrev pub asLine : ℕ → List ℕ × List ℕ → Result (Fields × List ℕ) FileFault
+asLine line cut = andThen (orFault (lineIn (cut .0)) (OfLine (Form line))) (λ fields. Ok (fields, cut .1))
 
--- the header: 13, 9, 10, 11
-abbrev pub opened : List ℕ → Result Place FileFault
-opened text =
-    andThen (lineAt 1 text) (λ line.
-    andThen (orFault (headerNumbers (line .0)) (OfLine (Form 1))) (λ numbers.
+abbrev pub lineAt : ℕ → List ℕ → Result (Fields × List ℕ) FileFault
+lineAt line text = andThen (orFault (cutAt 10 text) (NoLine line)) (asLine line)
+
+-- the header: 13, 9, then 10, then 11
+abbrev pub withCount : List ℕ → ℕ × ℕ → Result Place FileFault
+withCount rest numbers =
     unless (eqb (numbers .0) 1) (Version 1) (
     unless (countFits (numbers .1)) (OfLine (Range 1)) (
-    Ok (record { count = numbers .1; next = 0; greatest = 0; rest = line .1 })))))
+    Ok (record { count = numbers .1; next = 0; greatest = 0; rest = rest })))
 
--- the line of the cell that is due: 13, 9, 11, 12
-abbrev pub cellDue : Place → Result (PatternCell × Place) FileFault
-cellDue p =
-    andThen (lineAt (lineDue p) (p .rest)) (λ line.
-    andThen (orFault (cellValues (line .0)) (OfLine (Form (lineDue p)))) (λ c.
+abbrev pub asHeading : Fields × List ℕ → Result Place FileFault
+asHeading line = andThen (orFault (headerNumbers (line .0)) (OfLine (Form 1))) (withCount (line .1))
+
+abbrev pub opened : List ℕ → Result Place FileFault
+opened text = andThen (lineAt 1 text) asHeading
+
+-- the line of the cell that is due: 13, 9, then 11, then 12
+abbrev pub cellRead : Place → List ℕ → PatternCell → ℕ → Result (PatternCell × Place) FileFault
+cellRead p rest c g = Ok (c, record { count = p .count; next = p .next + 1; greatest = g; rest = rest })
+
+abbrev pub inRange : Place → List ℕ → PatternCell → Result (PatternCell × Place) FileFault
+inRange p rest c =
     unless (contentFits (p .count) (c .left) && contentFits (p .count) (c .right)) (OfLine (Range (lineDue p))) (
-    andThen (orFault (lineGoesOn (p .next) (p .greatest) c) (Numbering (lineDue p))) (λ g.
-    Ok (c, record { count = p .count; next = p .next + 1; greatest = g; rest = line .1 })))))
+    andThen (orFault (lineGoesOn (p .next) (p .greatest) c) (Numbering (lineDue p))) (cellRead p rest c))
 
--- the end line: 13, 9; and nothing behind it: 14
-abbrev pub finished : Place → Result ℕ FileFault
-finished p =
-    andThen (lineAt (lineDue p) (p .rest)) (λ line.
-    andThen (orFault (endCount (line .0)) (OfLine (Form (lineDue p)))) (λ n.
+abbrev pub asCell : Place → Fields × List ℕ → Result (PatternCell × Place) FileFault
+asCell p line = andThen (orFault (cellValues (line .0)) (OfLine (Form (lineDue p)))) (inRange p (line .1))
+
+abbrev pub cellDue : Place → Result (PatternCell × Place) FileFault
+cellDue p = andThen (lineAt (lineDue p) (p .rest)) (asCell p)
+
+-- the end line: 13, 9, also for another count; and behind it nothing: 14
+abbrev pub sameCount : Place → List ℕ → ℕ → Result ℕ FileFault
+sameCount p rest n =
     unless (eqb n (p .count)) (OfLine (Form (lineDue p))) (
-    unless (eqb (length (line .1)) 0) (Trailing (lineDue p + 1)) (
-    Ok (p .count)))))
+    unless (eqb (length rest) 0) (Trailing (lineDue p + 1)) (
+    Ok (p .count)))
 
--- the lines of the next cells, as many as are due
+abbrev pub asEnd : Place → Fields × List ℕ → Result ℕ FileFault
+asEnd p line = andThen (orFault (endCount (line .0)) (OfLine (Form (lineDue p)))) (sameCount p (line .1))
+
+abbrev pub finished : Place → Result ℕ FileFault
+finished p = andThen (lineAt (lineDue p) (p .rest)) (asEnd p)
+
+-- the lines of the next k cells
+abbrev pub inFront : PatternCell → Pattern × Place → Result (Pattern × Place) FileFault
+inFront c more = Ok (c ∷ more .0, more .1)
+
 abbrev pub cellsFrom : ℕ → Place → Result (Pattern × Place) FileFault
 cellsFrom zero p = Ok ([], p)
-cellsFrom (suc due) p =
-    andThen (cellDue p) (λ first.
-    andThen (cellsFrom due (first .1)) (λ more.
-    Ok (first .0 ∷ more .0, more .1)))
+cellsFrom (suc k) p = andThen (cellDue p) (λ first. andThen (cellsFrom k (first .1)) (inFront (first .0)))
+
+-- how many cell lines are due
+abbrev pub due : Place → ℕ
+due p = p .count - p .next
+
+-- the place behind the line of the last cell
+abbrev pub behindCells : Place → Result Place FileFault
+behindCells p = andThen (cellsFrom (due p) p) (λ cells. Ok (cells .1))
 
 -- the pattern that a text is, or the first fault
+abbrev pub ending : Pattern × Place → Result Pattern FileFault
+ending cells = andThen (finished (cells .1)) (λ n. Ok (cells .0))
+
+abbrev pub cellsAndEnd : Place → Result Pattern FileFault
+cellsAndEnd p = andThen (cellsFrom (due p) p) ending
+
 abbrev pub patternIn : List ℕ → Result Pattern FileFault
-patternIn text =
-    andThen (opened text) (λ p.
-    andThen (cellsFrom (p .count) p) (λ cells.
-    andThen (finished (cells .1)) (λ n.
-    Ok (cells .0))))
+patternIn text = andThen (opened text) cellsAndEnd
 
 -- the verdict: how many cells, or the first fault
 abbrev pub judged : List ℕ → Result ℕ FileFault

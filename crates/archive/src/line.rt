@@ -1,8 +1,10 @@
 //! One line of an archive text, as fields that are parts of the text.
 ghost use mathlib.Core.Path.{_≡_};
+ghost use mathlib.Core.Logic.{_↔_};
 ghost use Rattle.std.specs.shelf.Text.{sameBytes};
 ghost use Rattle.text.specs.Cut.{partsOf};
-ghost use Rattle.archive.specs.Line.{cellIn, endIn, fieldsIn, headerIn, lineIn, twoIn};
+ghost use Rattle.std.specs.declared.option.Option.the-variants.{Some};
+ghost use Rattle.archive.specs.Line.{Fields, IsLine, cellIn, endIn, fieldsIn, headerIn, lineIn, twoIn};
 use text::cut_at;
 
 const TAB: u8 = 9;
@@ -56,20 +58,28 @@ fn end_fields<'a>(text: &'a [u8]) -> Option<Line<'a>>
     Some(Line::End { count: text })
 }
 
+// The line by its first field and the number of its fields.
+fn by_word<'a>(body: &'a [u8]) -> Option<Line<'a>>
+    ensures { λ r. ⌜ fieldsIn r ≡ lineIn (now (body .entry)) ⌝ }
+{
+    let (word, fields) = cut_at(body, TAB)?;
+    if same(word, b"pattern") {
+        header_fields(fields)
+    } else if same(word, b"cell") {
+        cell_fields(fields)
+    } else if same(word, b"end") {
+        end_fields(fields)
+    } else {
+        None
+    }
+}
+
 impl<'a> Line<'a> {
-    // The line that the bytes before a line end are, by its first field and the number of its fields.
+    // The line that the bytes before a line end are; none where they have no line's form.
     pub fn read(body: &'a [u8]) -> Option<Line<'a>>
-        ensures { λ r. ⌜ fieldsIn r ≡ lineIn (now (body .entry)) ⌝ }
+        ensures fields { λ r. ⌜ fieldsIn r ≡ lineIn (now (body .entry)) ⌝ }
+        ensures exact { λ r. ⌜ ((f : Fields) → (fieldsIn r ≡ Some f) ↔ IsLine (now (body .entry)) f) ⌝ }
     {
-        let (word, fields) = cut_at(body, TAB)?;
-        if same(word, b"pattern") {
-            header_fields(fields)
-        } else if same(word, b"cell") {
-            cell_fields(fields)
-        } else if same(word, b"end") {
-            end_fields(fields)
-        } else {
-            None
-        }
+        by_word(body)
     }
 }

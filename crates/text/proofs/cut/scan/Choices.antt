@@ -1,5 +1,5 @@
 use Rattle.text.proofs.Cuts.{Passed}
-use Rattle.text.proofs.cut.cut_at.Given as given
+use Rattle.text.proofs.cut.scan.Given as given
 
 abbrev pub Inv-loop-i : given.InvT-loop-i
 Inv-loop-i l = Passed (l .stop) (l .text) (l .i)

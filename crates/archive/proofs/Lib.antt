@@ -1,0 +1,7 @@
+pub mod Accepts
+pub mod Forms
+pub mod Numbering
+pub mod Outcomes
+pub mod Places
+pub mod Values
+pub mod Whole
