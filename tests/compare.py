@@ -691,7 +691,9 @@ def exchange_numbers(rng: Rng, pattern: Pattern) -> Pattern:
     new = {one: other, other: one}
 
     def changed(content: Content) -> Content:
-        return Link(new.get(content.number, content.number)) if isinstance(content, Link) else content
+        if isinstance(content, Link):
+            return Link(new.get(content.number, content.number))
+        return content
 
     return [Cell(cell.joint, changed(cell.left), changed(cell.right)) for cell in pattern]
 
@@ -728,7 +730,8 @@ def replace_link(rng: Rng, pattern: Pattern) -> Pattern:
 def renumbered_case(rng: Rng) -> Case:
     """Cells in their ranges whose numbering is wrong, or perhaps still right."""
     pattern = made_pattern(rng, at_least=2)
-    change = rng.choice((exchange_numbers, shuffle_lines, number_freely, replace_link, replace_link))
+    changes = (exchange_numbers, shuffle_lines, number_freely, replace_link, replace_link)
+    change = rng.choice(changes)
     pattern = change(rng, pattern)
     line = line_breaking_rule(pattern)
     starts = b"cells\t%d\n" % len(pattern) if line is None else fault_line(12, line)
@@ -925,7 +928,8 @@ def random_lines(rng: Rng) -> bytes:
         contents = [b"c%d" % rng.randint(0, count - (rng.random() < 0.9)) for _ in range(2)]
         for side in (0, 1):
             if rng.random() < 0.3:
-                contents[side] = rng.choice((b"-", b"y0", b"y4095", b"c%d" % min(own + 1, count - 1)))
+                next_cell = b"c%d" % min(own + 1, count - 1)
+                contents[side] = rng.choice((b"-", b"y0", b"y4095", next_cell))
         rows.append(b"cell\t%s\t%s\t%s\n" % (rng.choice((b"a", b"b")), *contents))
     rows.append(b"end\t%d\n" % count)
     return b"".join(rows) + rng.choice((b"", b"", b"", b"", b"", b"\n"))

@@ -1,5 +1,6 @@
 pub mod Accepts
 pub mod Forms
+pub mod Lengths
 pub mod Numbering
 pub mod Outcomes
 pub mod Places

@@ -13,7 +13,7 @@ use Rattle.cells.specs.declared.content.Content.the-variants.{Nothing, Yarn, Ce
 use Rattle.cells.specs.declared.content.Joint.{Joint}
 use Rattle.cells.specs.declared.content.Joint.the-variants.{Beside, Above}
 use Rattle.archive.specs.declared.cell.PatternCell.{PatternCell}
-use Rattle.archive.specs.Line.{Fields, header, cell, end, body}
+use Rattle.archive.specs.Line.{Fields, header, cell, end, body, tabbed}
 
 -- the cells of a pattern in the order of their file numbers: the i-th is cell i
 abbrev pub Pattern : Type 0
@@ -42,6 +42,14 @@ endFields n = end (decimal n)
 -- a line with its line end
 abbrev pub lineText : Fields → List ℕ
 lineText f = body f ++ (10 ∷ [])
+
+-- a line of words and a count
+abbrev pub countedText : List ℕ → ℕ → List ℕ
+countedText words n = words ++ (decimal n ++ (10 ∷ []))
+
+-- what stands in a cell line before its contents
+abbrev pub opening : Joint → List ℕ
+opening j = tabbed (codes "cell") (tabbed (jointText j) [])
 
 -- the cell lines, from the first on
 abbrev pub cellsText : Pattern → List ℕ

@@ -4,6 +4,7 @@ mod fault;
 mod line;
 mod reader;
 mod verdict;
+mod write;
 
 pub use cell::PatternCell;
 pub use cell::PatternCellDebug;

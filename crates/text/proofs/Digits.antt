@@ -49,8 +49,8 @@ length-one n h = ap length (decimal-digit n h)
 pub length-front : (n f : ℕ) → 10 ≤ n → n < 2 ^ 64 → f ≡ n / 10 → length (decimal n) ≡ length (decimal f) + 1
 length-front n f h fits e = ap length (decimal-step n h fits) ∙ length-append (decimal (n / 10)) _ ∙ ap (λ k. length (decimal k) + 1) (sym e)
 
-pub length-few : (n : ℕ) → n < 2 ^ 64 → length (decimal n) ≤ 20
-length-few n fits = length-decimal-le 20 n (omega arith) (omega arith) fits
+pub length-few : (n : ℕ) → n < 2 ^ 32 → length (decimal n) ≤ 10
+length-few n fits = length-decimal-le 10 n (omega arith) (omega arith) (omega arith)
 
 -- the last byte of a number behind its front
 pub decimal-front : (n f b : ℕ) → 10 ≤ n → n < 2 ^ 64 → f ≡ n / 10 → b ≡ 48 + n % 10 → decimal n ≡ decimal f ++ (b ∷ [])

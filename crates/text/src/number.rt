@@ -73,9 +73,10 @@ fn last_digit(n: u32) -> u8
     b'0' + (n % 10) as u8
 }
 
-// How many digits `n` has.
+// How many digits `n` has; never more than ten.
 pub fn number_length(n: u32) -> usize
-    ensures { λ r. ⌜ r ≡ length (decimal n) ⌝ }
+    ensures digits { λ r. ⌜ r ≡ length (decimal n) ⌝ }
+    ensures few { λ r. ⌜ r ≤ 10 ⌝ }
 {
     if n < 10 {
         return 1;
