@@ -14,7 +14,7 @@ use Rattle.archive.specs.declared.cell.PatternCell.{PatternCell}
 use Rattle.archive.specs.declared.fault.FileFault.{FileFault}
 use Rattle.archive.specs.Pattern.{Pattern}
 use Rattle.archive.specs.Reading.{Place, andThen, cellDue, cellsFrom, cellGiven, inFront, movedOn, nextCell, placeAfter, behindCells, due}
-use Rattle.archive.proofs.Accepts.{cell-read}
+use Rattle.archive.proofs.Accepts.{CellRead, cell-read}
 use Rattle.archive.proofs.Outcomes.{ok-same, some-same, err-not-ok, none-not-some}
 
 module _ (p : Place) where
@@ -77,6 +77,12 @@ module _ (p : Place) where
       let h = leb-false _ _ (g .more) in
       let m = cell-read p c (placeAfter p) (g .read) in
       omega (arith, m .count-is, m .next-is)
+
+  pub place-moves : (c : PatternCell) → nextCell p ≡ Ok (Some c) → CellRead p c (placeAfter p)
+  place-moves c e = cell-read p c (placeAfter p) (given-cell c e .read)
+
+  pub next-below : (c : PatternCell) → nextCell p ≡ Ok (Some c) → p .next < p .count
+  next-below c e = leb-false _ _ (given-cell c e .more)
 
   pub cells-some : (c : PatternCell) → nextCell p ≡ Ok (Some c) → cellsFrom (due p) p ≡ andThen (cellsFrom (due (placeAfter p)) (placeAfter p)) (inFront c)
   unfolding first-then

@@ -23,3 +23,6 @@ pub use line::Line;
 pub use line::LineDebug;
 pub use reader::Reader;
 pub use verdict::judge;
+pub use write::write_cell;
+pub use write::write_end;
+pub use write::write_header;
