@@ -125,7 +125,7 @@ header-written n rest some few =
     let start : Place = record { count = n; next = 0; greatest = 0; rest = rest } in
     let one : numberIn (codes "1") ≡ Some 1 = ap numberIn (sym version-is) ∙ number-written 1 (omega arith) in
     let numbers : headerNumbers (headerFields n) ≡ Some (1, n) =
-        ap (λ o. given o (λ v. given (numberIn (decimal n)) (λ k. Some (v, k)))) one ∙ ap (λ o. given o (λ k. Some (1, k))) (number-written n short) in
+    ap (λ o. given o (λ v. given (numberIn (decimal n)) (λ k. Some (v, k)))) one ∙ ap (λ o. given o (λ k. Some (1, k))) (number-written n short) in
     let good : countFits n ≡ true = grind (arith, tells) in
     ap (λ line. andThen line asHeading) (line-written 1 (headerFields n) rest (header-plain n short) (header-ends n short))
     ∙ step-back (headerNumbers (headerFields n)) (OfLine (Form 1)) (withCount rest) (1, n) numbers
@@ -216,7 +216,7 @@ cell-written p c q few read =
     let right = range-short (p .count) (c .right) few (read .right-in) in
     let fits = contentFits (p .count) (c .left) && contentFits (p .count) (c .right) in
     let good : fits ≡ true =
-        ap (λ t. t && contentFits (p .count) (c .right)) (range-fits (p .count) (c .left) (read .left-in)) ∙ range-fits (p .count) (c .right) (read .right-in) in
+    ap (λ t. t && contentFits (p .count) (c .right)) (range-fits (p .count) (c .left) (read .left-in)) ∙ range-fits (p .count) (c .right) (read .right-in) in
     let number = andThen (orFault (lineGoesOn (p .next) (p .greatest) c) (Numbering at)) (cellRead p (q .rest) c) in
     ap (λ t. andThen (lineAt at t) (asCell p)) (read .text-is)
     ∙ ap (λ line. andThen line (asCell p)) (line-written at (cellFields c) (q .rest) (cell-plain c left right) (cell-ends c left right))
@@ -237,12 +237,13 @@ end-read p n e =
     let count = step-ok (endCount f) (OfLine (Form at)) (sameCount p rest) n (line .2) in
     let k = count .0 in
     let same = unless-ok (eqb k (p .count)) (OfLine (Form at)) (unless (eqb (length rest) 0) (Trailing (at + 1)) (Ok (p .count))) n (count .2) in
-    let last = unless-ok (eqb (length rest) 0) (Trailing (at + 1)) (Ok (p .count)) n (same .1) in
-    ( line-read at (p .rest) f rest (line .1)
-      ∙ ap (λ t. lineText f ++ t) (empty rest (last .0))
-      ∙ append-nil (lineText f)
-      ∙ ap lineText (end-count f k (count .1) ∙ ap endFields (eqb-true k (p .count) (same .0)))
-    , sym (ok-same (last .1)))
+    let last = unless-ok (eqb (length rest) 0) (Trailing (at + 1)) (Ok (p .count)) n (same .1) in (
+      line-read at (p .rest) f rest (line .1)
+          ∙ ap (λ t. lineText f ++ t) (empty rest (last .0))
+          ∙ append-nil (lineText f)
+          ∙ ap lineText (end-count f k (count .1) ∙ ap endFields (eqb-true k (p .count) (same .0))),
+      sym (ok-same (last .1)),
+    )
 
 pub end-written : (p : Place) → p .count < 100000 → p .rest ≡ lineText (endFields (p .count)) → finished p ≡ Ok (p .count)
 end-written p h e =

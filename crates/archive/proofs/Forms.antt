@@ -40,6 +40,7 @@ two-holds text first second e = by (cutAt 9 text) refl e
         let cut = cut-holds 9 text first second (f ∙ e) in
         let plain = missing (parts .1) (cutAt 9 (parts .1)) refl q in
         record { text-is = cut .0; first-plain = cut .1; second-plain = subst (λ r. Lacks 9 (r .1)) same plain }
+
     by : (o : Option (List ℕ × List ℕ)) → cutAt 9 text ≡ o → exactlyTwo o ≡ Some (first, second) → Two text first second
     by None f e = absurd (none-not-some e)
     by (Some parts) f e = last parts (isSome (cutAt 9 (parts .1))) refl f e
@@ -72,6 +73,7 @@ cell-holds text f e = by (cutAt 9 text) refl e
         let two = two-holds (parts .1) (both .0) (both .1) q in
         subst (λ g. (tabbed (codes "cell") text ≡ body g) × Tabless g) (some-same e)
         (ap (tabbed (codes "cell")) (cut .0 ∙ ap (tabbed (parts .0)) (two .text-is)), (cut .1, two .first-plain, two .second-plain))
+
     by : (o : Option (List ℕ × List ℕ)) → cutAt 9 text ≡ o → afterJoint o ≡ Some f → (tabbed (codes "cell") text ≡ body f) × Tabless f
     by None q e = absurd (none-not-some e)
     by (Some parts) q e = with-joint parts (twoIn (parts .1)) q refl e
@@ -93,12 +95,15 @@ word-holds word text f e = first (sameBytes word (codes "pattern")) refl e
   where
     at : (name : List ℕ) → sameBytes word name ≡ true → (tabbed name text ≡ body f) × Tabless f → (tabbed word text ≡ body f) × Tabless f
     at name q h = subst (λ w. (tabbed w text ≡ body f) × Tabless f) (sym (sameBytes-decides word name .0 q)) h
+
     third : (t : Bool) → sameBytes word (codes "end") ≡ t → cond t (endIn text) None ≡ Some f → (tabbed word text ≡ body f) × Tabless f
     third true q e = at (codes "end") q (end-holds text f e)
     third false q e = absurd (none-not-some e)
+
     second : (t : Bool) → sameBytes word (codes "cell") ≡ t → cond t (cellIn text) (cond (sameBytes word (codes "end")) (endIn text) None) ≡ Some f → (tabbed word text ≡ body f) × Tabless f
     second true q e = at (codes "cell") q (cell-holds text f e)
     second false q e = third (sameBytes word (codes "end")) refl e
+
     first : (t : Bool) → sameBytes word (codes "pattern") ≡ t → cond t (headerIn text) (cond (sameBytes word (codes "cell")) (cellIn text) (cond (sameBytes word (codes "end")) (endIn text) None)) ≡ Some f → (tabbed word text ≡ body f) × Tabless f
     first true q e = at (codes "pattern") q (header-holds text f e)
     first false q e = second (sameBytes word (codes "cell")) refl e

@@ -42,9 +42,10 @@ each-follows g (x ∷ xs) f (b ∷ before) k after e =
 
 pub follows-each : (g : ℕ) (xs : List ℕ) → Each-follows g xs → Follows g xs
 follows-each g [] f = tt
-follows-each g (x ∷ xs) f =
-    ( omega (arith, f [] x xs refl)
-    , follows-each (max g x) xs (λ before k after e. omega (arith, f (x ∷ before) k after (ap (λ l. x ∷ l) e))))
+follows-each g (x ∷ xs) f = (
+  omega (arith, f [] x xs refl),
+  follows-each (max g x) xs (λ before k after e. omega (arith, f (x ∷ before) k after (ap (λ l. x ∷ l) e))),
+)
 
 pub follows-front : (g : ℕ) (xs ys : List ℕ) → Follows g (xs ++ ys) → Follows g xs
 follows-front g [] ys f = tt
@@ -137,9 +138,10 @@ each-met i g (c ∷ cs) m (suc j) h =
 
 pub met-each : (i g : ℕ) (p : Pattern) → Each-met i g p → Met i g p
 met-each i g [] m = tt
-met-each i g (c ∷ cs) m =
-    ( omega (arith, m 0 (omega arith))
-    , met-each (i + 1) (behindCell g c) cs (λ j h. omega (arith, m (suc j) (omega arith), greatest-two c (contents (take j cs)))))
+met-each i g (c ∷ cs) m = (
+  omega (arith, m 0 (omega arith)),
+  met-each (i + 1) (behindCell g c) cs (λ j h. omega (arith, m (suc j) (omega arith), greatest-two c (contents (take j cs)))),
+)
 
 -- Under the rule of the numbers, a cell is at most the greatest named before its line exactly if it is cell 0 or
 -- was named there.

@@ -33,6 +33,7 @@ module _ (p : Place) where
       fault : (r : Result (PatternCell × Place) FileFault) → cellGiven r ≡ Err f → first-then r ≡ Err f
       fault (Ok read) e = absurd (err-not-ok (sym e))
       fault (Err g) e = cc
+
       by : (t : Bool) → leb (p .count) (p .next) ≡ t → cond t (Ok None) (cellGiven (cellDue p)) ≡ Err f → cellsFrom (due p) p ≡ Err f
       by true q e = absurd (err-not-ok (sym e))
       by false q e = cells-first q ∙ fault (cellDue p) e
@@ -44,6 +45,7 @@ module _ (p : Place) where
       never : (r : Result (PatternCell × Place) FileFault) → cellGiven r ≡ Ok None → ⊥
       never (Ok read) e = none-not-some (sym (ok-same e))
       never (Err g) e = err-not-ok e
+
       by : (t : Bool) → cond t (Ok None) (cellGiven (cellDue p)) ≡ Ok None → t ≡ true
       by true e = refl
       by false e = absurd (never (cellDue p) e)
@@ -65,6 +67,7 @@ module _ (p : Place) where
       moved : (r : Result (PatternCell × Place) FileFault) → cellGiven r ≡ Ok (Some c) → r ≡ Ok (c, movedOn p r)
       moved (Ok read) e = ap (λ d. Ok (d, read .1)) (some-same (ok-same e))
       moved (Err g) e = absurd (err-not-ok e)
+
       by : (t : Bool) → leb (p .count) (p .next) ≡ t → cond t (Ok None) (cellGiven (cellDue p)) ≡ Ok (Some c) → Given c
       by true q e = absurd (none-not-some (ok-same e))
       by false q e =

@@ -35,6 +35,7 @@ joint-holds text j e = first (sameBytes text (codes "b")) refl e
     second : (t : Bool) → sameBytes text (codes "a") ≡ t → cond t (Some Above) None ≡ Some j → text ≡ jointText j
     second true q e = sameBytes-decides text (codes "a") .0 q ∙ ap jointText (some-same e)
     second false q e = absurd (none-not-some e)
+
     first : (t : Bool) → sameBytes text (codes "b") ≡ t → cond t (Some Beside) (cond (sameBytes text (codes "a")) (Some Above) None) ≡ Some j → text ≡ jointText j
     first true q e = sameBytes-decides text (codes "b") .0 q ∙ ap jointText (some-same e)
     first false q e = second (sameBytes text (codes "a")) refl e
@@ -60,15 +61,17 @@ module _ (letter : ℕ) (digits : List ℕ) (c : Content) where
 
   numbered : (b : ℕ) (make : ℕ → Content) → ((n : ℕ) → contentText (make n) ≡ b ∷ decimal n) → ((n : ℕ) → n < 100000 → Short (make n)) → (n : ℕ) → numberIn digits ≡ Some n → eqb letter b ≡ true → make n ≡ c → Content-is
   numbered b make text short n q r e =
-      let read = number-read digits n q in
-      ( ap (λ l. l ∷ digits) (eqb-true letter b r) ∙ ap (λ ds. b ∷ ds) (read .1) ∙ sym (text n) ∙ ap contentText e
-      , subst Short e (short n (read .0)))
+      let read = number-read digits n q in (
+        ap (λ l. l ∷ digits) (eqb-true letter b r) ∙ ap (λ ds. b ∷ ds) (read .1) ∙ sym (text n) ∙ ap contentText e,
+        subst Short e (short n (read .0)),
+      )
 
   after-dash : (t : Bool) → eqb (length digits) 0 ≡ t → eqb letter 45 ≡ true → cond t (Some Nothing) None ≡ Some c → Content-is
   after-dash true q r e =
-      let same = some-same e in
-      ( ap (λ l. l ∷ digits) (eqb-true letter 45 r) ∙ ap (λ ds. 45 ∷ ds) (empty digits q) ∙ ap contentText same
-      , subst Short same tt)
+      let same = some-same e in (
+        ap (λ l. l ∷ digits) (eqb-true letter 45 r) ∙ ap (λ ds. 45 ∷ ds) (empty digits q) ∙ ap contentText same,
+        subst Short same tt,
+      )
   after-dash false q r e = absurd (none-not-some e)
 
   is-cell : (n : ℕ) → numberIn digits ≡ Some n → (t : Bool) → eqb letter 99 ≡ t → cond t (Some (Cell n)) None ≡ Some c → Content-is
@@ -105,9 +108,10 @@ header-numbers (header version count) v n e =
     let second = given-some (numberIn count) (λ n. Some (first .0, n)) (v, n) (first .2) in
     let same = some-same (second .2) in
     let a = number-read version (first .0) (first .1) in
-    let b = number-read count (second .0) (second .1) in
-    ( ap (λ t. header t count) (a .1 ∙ ap (λ p. decimal (p .0)) same) ∙ ap (header (decimal v)) (b .1 ∙ ap (λ p. decimal (p .1)) same)
-    , subst (λ p. p .1 < 100000) same (b .0))
+    let b = number-read count (second .0) (second .1) in (
+      ap (λ t. header t count) (a .1 ∙ ap (λ p. decimal (p .0)) same) ∙ ap (header (decimal v)) (b .1 ∙ ap (λ p. decimal (p .1)) same),
+      subst (λ p. p .1 < 100000) same (b .0),
+    )
 
 pub record CellIs (f : Fields) (c : PatternCell) : Type 0 where
   pub fields : f ≡ cellFields c
@@ -132,9 +136,9 @@ cell-values (cell joint left right) c e =
     let made : PatternCell = record { joint = j .0; left = l .0; right = r .0 } in
     let is : CellIs (cell joint left right) made = record {
       fields =
-        ap (λ t. cell t left right) (joint-holds joint (j .0) (j .1))
-        ∙ ap (λ t. cell (jointText (j .0)) t right) (left-is .0)
-        ∙ ap (λ t. cell (jointText (j .0)) (contentText (l .0)) t) (right-is .0);
+          ap (λ t. cell t left right) (joint-holds joint (j .0) (j .1))
+          ∙ ap (λ t. cell (jointText (j .0)) t right) (left-is .0)
+          ∙ ap (λ t. cell (jointText (j .0)) (contentText (l .0)) t) (right-is .0);
       left-short = left-is .1;
       right-short = right-is .1;
     } in

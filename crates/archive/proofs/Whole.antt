@@ -45,8 +45,8 @@ line-in-front p c m cs q first more =
       count-is = more .count-is ∙ first .count-is;
       in-range = (first .left-in, (first .right-in, subst (λ n. All (InRange n) (contents cs)) (first .count-is) (more .in-range)));
       follows =
-        follows-content (p .greatest) (c .left) (on .middle) (c .right ∷ contents cs) (on .left-goes)
-        (follows-content (on .middle) (c .right) (m .greatest) (contents cs) (on .right-goes) (more .follows));
+          follows-content (p .greatest) (c .left) (on .middle) (c .right ∷ contents cs) (on .left-goes)
+          (follows-content (on .middle) (c .right) (m .greatest) (contents cs) (on .right-goes) (more .follows));
       met = (on .met, subst (λ g. Met (p .next + 1) g cs) h (subst (λ i. Met i (m .greatest) cs) (first .next-is) (more .met)));
     }
 
@@ -90,8 +90,8 @@ cells-written (c ∷ cs) p rest few text range follows met =
     record {
       end = more .end;
       read =
-        ap (λ r. andThen r (λ first. andThen (cellsFrom (length cs) (first .1)) (inFront (first .0)))) (cell-written p c m few line)
-        ∙ ap (λ r. andThen r (inFront c)) (more .read);
+          ap (λ r. andThen r (λ first. andThen (cellsFrom (length cs) (first .1)) (inFront (first .0)))) (cell-written p c m few line)
+          ∙ ap (λ r. andThen r (inFront c)) (more .read);
       rest-is = more .rest-is;
       count-is = more .count-is;
     }
@@ -112,9 +112,9 @@ whole-read text s cs q head long cells last =
         next-number = λ before k after e. omega (arith, each-follows 0 (named (contents cs)) follows before k after e);
       };
       text-is =
-        head .text-is
-        ∙ ap (λ t. lineText (headerFields (s .count)) ++ t) (cells .text-is ∙ ap (λ t. cellsText cs ++ t) (last ∙ ap (λ k. lineText (endFields k)) (cells .count-is)))
-        ∙ ap (λ k. lineText (headerFields k) ++ (cellsText cs ++ lineText (endFields k))) n;
+          head .text-is
+          ∙ ap (λ t. lineText (headerFields (s .count)) ++ t) (cells .text-is ∙ ap (λ t. cellsText cs ++ t) (last ∙ ap (λ k. lineText (endFields k)) (cells .count-is)))
+          ∙ ap (λ k. lineText (headerFields k) ++ (cellsText cs ++ lineText (endFields k))) n;
     }
 
 pub pattern-read : (text : List ℕ) (p : Pattern) → patternIn text ≡ Ok p → Writes p text
@@ -147,17 +147,19 @@ pattern-written text p w =
 
 -- The verdict counts the cells of the pattern.
 
+pub count-is : (text : List ℕ) (s : Place) (cs : Pattern) (q : Place) (n : ℕ) → opened text ≡ Ok s → cellsFrom (due s) s ≡ Ok (cs, q) → finished q ≡ Ok n → n ≡ length cs
+count-is text s cs q n e f h =
+    let read = cells-read (due s) s cs q f in
+    let head = header-read text s e in
+    omega (arith, end-read q n h .1, read .0, read .1 .count-is, head .at-first)
+
 counted : (text : List ℕ) (s : Place) → opened text ≡ Ok s → andThen (behindCells s) finished ≡ andThen (cellsAndEnd s) (λ p. Ok (length p))
 counted text s e = by (cellsFrom (due s) s) refl
   where
     last : (cs : Pattern) (q : Place) → cellsFrom (due s) s ≡ Ok (cs, q) → (r : Result ℕ FileFault) → finished q ≡ r → r ≡ andThen (andThen r (λ n. Ok cs)) (λ p. Ok (length p))
     last cs q f (Err g) h = refl
-    last cs q f (Ok n) h =
-        let read = cells-read (due s) s cs q f in
-        let head = header-read text s e in
-        let n-is = end-read q n h .1 in
-        let same : n ≡ length cs = omega (arith, read .0, read .1 .count-is, head .at-first) in
-        ap Ok same
+    last cs q f (Ok n) h = ap Ok (count-is text s cs q n e f h)
+
     by : (r : Result (Pattern × Place) FileFault) → cellsFrom (due s) s ≡ r → andThen (andThen r (λ cells. Ok (cells .1))) finished ≡ andThen (andThen r ending) (λ p. Ok (length p))
     by (Err g) f = refl
     by (Ok cells) f = last (cells .0) (cells .1) f (finished (cells .1)) refl
@@ -172,9 +174,10 @@ verdict-is text = by (opened text) refl
 -- The laws of judging.
 
 pub accepted-exactly : (text : List ℕ) (n : ℕ) → (judged text ≡ Ok n) ↔ WritesSome n text
-accepted-exactly text n =
-    ( λ e. let read = andThen-ok (patternIn text) (λ p. Ok (length p)) n e in (read .0, ok-same (read .2), pattern-read text (read .0) (read .1))
-    , λ w. ap (λ r. andThen r (λ p. Ok (length p))) (pattern-written text (w .0) (w .2)) ∙ ap Ok (w .1))
+accepted-exactly text n = (
+  λ e. let read = andThen-ok (patternIn text) (λ p. Ok (length p)) n e in (read .0, ok-same (read .2), pattern-read text (read .0) (read .1)),
+  λ w. ap (λ r. andThen r (λ p. Ok (length p))) (pattern-written text (w .0) (w .2)) ∙ ap Ok (w .1),
+)
 
 pub one-pattern : (text : List ℕ) → OnePattern text
 one-pattern text p q a b = ok-same (sym (pattern-written text p a) ∙ pattern-written text q b)

@@ -4,15 +4,15 @@ ghost use Prim.Native.Nat.{ℕ};
 ghost use lib.ListN.{length};
 ghost use Rattle.archive.specs.Line.{fieldsOf};
 ghost use Rattle.archive.specs.Reading.{byLetter, cellValues, contentIn, endCount, headerNumbers, jointIn};
-use cells::Content;
-use cells::Joint;
 use crate::line::Line;
 use crate::line::same;
-use text::read_number;
+use cells::Content;
 use cells::ContentDebug;
 use cells::ContentPartialEq;
+use cells::Joint;
 use cells::JointDebug;
 use cells::JointPartialEq;
+use text::read_number;
 
 // A cell of a pattern. The cells that its contents name go by their numbers in the file.
 #[derive(Clone, Copy, Debug, PartialEq)]
@@ -39,7 +39,11 @@ fn by_letter(letter: u8, digits: &[u8]) -> Option<Content>
     ensures { λ r. ⌜ r ≡ byLetter letter (now (digits .entry)) ⌝ }
 {
     if letter == b'-' {
-        return if digits.len() == 0 { Some(Content::Nothing) } else { None };
+        return if digits.len() == 0 {
+            Some(Content::Nothing)
+        } else {
+            None
+        };
     }
     let number = read_number(digits)?;
     if letter == b'y' {
@@ -75,7 +79,11 @@ pub(crate) fn cell_values(line: Line<'_>) -> Option<PatternCell>
     let Line::Cell { joint, left, right } = line else {
         return None;
     };
-    Some(PatternCell { joint: read_joint(joint)?, left: read_content(left)?, right: read_content(right)? })
+    Some(PatternCell {
+        joint: read_joint(joint)?,
+        left: read_content(left)?,
+        right: read_content(right)?,
+    })
 }
 
 // The count of an end line.

@@ -12,9 +12,18 @@ const TAB: u8 = 9;
 // A line that is read. Its fields are lent from the text and may be kept as long as the text.
 #[derive(Clone, Copy, Debug)]
 pub enum Line<'a> {
-    Header { version: &'a [u8], count: &'a [u8] },
-    Cell { joint: &'a [u8], left: &'a [u8], right: &'a [u8] },
-    End { count: &'a [u8] },
+    Header {
+        version: &'a [u8],
+        count: &'a [u8],
+    },
+    Cell {
+        joint: &'a [u8],
+        left: &'a [u8],
+        right: &'a [u8],
+    },
+    End {
+        count: &'a [u8],
+    },
 }
 
 pub(crate) fn same(a: &[u8], b: &[u8]) -> bool

@@ -3,7 +3,6 @@ ghost use mathlib.Core.Path.{_≡_};
 ghost use Prim.Native.Nat.{ℕ, _+_, _<_};
 ghost use Rattle.archive.specs.Reading.{cellDue, contentFits, countFits, finished, goesOn, lineAt, lineDue, lineGoesOn, nextCell, opened, placeAfter, placeOf};
 ghost use Rattle.archive.specs.Answers.{cellAnswer, lineAnswer, openAnswer};
-use cells::Content;
 use crate::cell::PatternCell;
 use crate::cell::cell_values;
 use crate::cell::end_count;
@@ -12,6 +11,7 @@ use crate::fault::FileFault;
 use crate::fault::FileFaultFromLine;
 use crate::fault::LineFault;
 use crate::line::Line;
+use cells::Content;
 use text::cut_at;
 
 const LINE_END: u8 = 10;
@@ -94,7 +94,12 @@ impl<'a> Reader<'a> {
         if !count_fits(count) {
             return Err(LineFault::Range(1).into());
         }
-        Ok(Reader { count, next: 0, greatest: 0, rest })
+        Ok(Reader {
+            count,
+            next: 0,
+            greatest: 0,
+            rest,
+        })
     }
 
     // The line that is due, counted from 1.
@@ -115,8 +120,18 @@ impl<'a> Reader<'a> {
         if !(content_fits(self.count, cell.left) && content_fits(self.count, cell.right)) {
             return Err(LineFault::Range(at).into());
         }
-        let greatest = line_goes_on(self.next, self.greatest, cell).ok_or(FileFault::Numbering(at))?;
-        Ok((cell, Reader { count: self.count, next: self.next + 1, greatest, rest }))
+        let greatest = line_goes_on(self.next, self.greatest, cell).ok_or(FileFault::Numbering(
+            at,
+        ))?;
+        Ok((
+            cell,
+            Reader {
+                count: self.count,
+                next: self.next + 1,
+                greatest,
+                rest,
+            },
+        ))
     }
 
     // The next cell, or none behind the last; the place stays where a line is refused.

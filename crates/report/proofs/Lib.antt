@@ -1,2 +1,3 @@
 pub mod Counts
+pub mod Laws
 pub mod Steps

@@ -1,2 +1,3 @@
+pub mod Summary
 pub mod Survey
 pub mod Tally

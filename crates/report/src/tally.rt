@@ -35,7 +35,13 @@ impl Tally {
     pub(crate) fn new() -> Tally
         ensures { λ r. ⌜ r ≡ empty ⌝ }
     {
-        Tally { above: 0, yarns: 0, nothings: 0, ties: 0, greatest: 0 }
+        Tally {
+            above: 0,
+            yarns: 0,
+            nothings: 0,
+            ties: 0,
+            greatest: 0,
+        }
     }
 
     fn with_joint(self, joint: Joint) -> Tally
@@ -44,7 +50,10 @@ impl Tally {
     {
         match joint {
             Joint::Beside => self,
-            Joint::Above => Tally { above: self.above + 1, ..self },
+            Joint::Above => Tally {
+                above: self.above + 1,
+                ..self
+            },
         }
     }
 
@@ -53,13 +62,25 @@ impl Tally {
         ensures { λ r. ⌜ r ≡ contentNoted self content ⌝ }
     {
         match content {
-            Content::Nothing => Tally { nothings: self.nothings + 1, ..self },
-            Content::Yarn(_) => Tally { yarns: self.yarns + 1, ..self },
+            Content::Nothing => Tally {
+                nothings: self.nothings + 1,
+                ..self
+            },
+            Content::Yarn(_) => Tally {
+                yarns: self.yarns + 1,
+                ..self
+            },
             Content::Cell(k) => {
                 if k <= self.greatest {
-                    Tally { ties: self.ties + 1, ..self }
+                    Tally {
+                        ties: self.ties + 1,
+                        ..self
+                    }
                 } else {
-                    Tally { greatest: k, ..self }
+                    Tally {
+                        greatest: k,
+                        ..self
+                    }
                 }
             }
         }
@@ -70,6 +91,8 @@ impl Tally {
         requires { ⌜ Upto (2 ^ 62) self ⌝ }
         ensures { λ r. ⌜ r ≡ cellNoted self cell ⌝ }
     {
-        self.with_joint(cell.joint).with_content(cell.left).with_content(cell.right)
+        self.with_joint(cell.joint)
+            .with_content(cell.left)
+            .with_content(cell.right)
     }
 }

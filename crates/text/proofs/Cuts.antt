@@ -62,15 +62,17 @@ module _ (stop x : ℕ) (xs front rest : List ℕ) where
   holds-further more miss None q f = absurd (let z : _≡_ {A = ℕ} 0 1 = cc in omega arith)
   holds-further more miss (Some parts) q f =
       let same = same-parts f in
-      let cut = more (parts .0) (parts .1) q in
-      ( ap (λ l. x ∷ l) (cut .0) ∙ ap (λ l. l ++ (stop ∷ parts .1)) (same .0) ∙ ap (λ l. front ++ (stop ∷ l)) (same .1)
-      , subst (Lacks stop) (same .0) (miss, cut .1))
+      let cut = more (parts .0) (parts .1) q in (
+        ap (λ l. x ∷ l) (cut .0) ∙ ap (λ l. l ++ (stop ∷ parts .1)) (same .0) ∙ ap (λ l. front ++ (stop ∷ l)) (same .1),
+        subst (Lacks stop) (same .0) (miss, cut .1),
+      )
 
   holds-here : Holds stop xs → (t : Bool) → eqb x stop ≡ t → cond t (Some ([], xs)) (behind (x ∷ []) (cutAt stop xs)) ≡ Some (front, rest) → Cuts stop (x ∷ xs) front rest
   holds-here more true q e =
-      let same = same-parts e in
-      ( ap (λ y. y ∷ xs) (eqb-true x stop q) ∙ ap (λ l. stop ∷ l) (same .1) ∙ ap (λ l. l ++ (stop ∷ rest)) (same .0)
-      , subst (Lacks stop) (same .0) tt)
+      let same = same-parts e in (
+        ap (λ y. y ∷ xs) (eqb-true x stop q) ∙ ap (λ l. stop ∷ l) (same .1) ∙ ap (λ l. l ++ (stop ∷ rest)) (same .0),
+        subst (Lacks stop) (same .0) tt,
+      )
   holds-here more false q e = holds-further more (eqb-false x stop q) (cutAt stop xs) refl e
 
 pub cut-holds : (stop : ℕ) (xs : List ℕ) → Holds stop xs

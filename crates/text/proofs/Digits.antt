@@ -67,7 +67,7 @@ pub one-more : (buffer : List ℕ) (at : ℕ) (xs : List ℕ) (b : ℕ) → at +
 one-more buffer at xs b h =
     let front : length (take at buffer ++ xs) ≡ at + length xs = simp (length-append, length-take) (omega arith) in
     let split : written buffer at xs ≡ (take at buffer ++ xs) ++ (getD buffer (at + length xs) 0 ∷ drop (at + length xs + 1) buffer) =
-        ap (λ l. take at buffer ++ (xs ++ l)) (drop-more buffer (at + length xs) 0 h) ∙ sym (append-assoc (take at buffer) xs _) in
+    ap (λ l. take at buffer ++ (xs ++ l)) (drop-more buffer (at + length xs) 0 h) ∙ sym (append-assoc (take at buffer) xs _) in
     let last : at + length xs + 1 ≡ at + length (xs ++ b ∷ []) = simp length-append (omega arith) in
     ap (λ l. set l (at + length xs) b) split
     ∙ set-at (take at buffer ++ xs) _ _ b (at + length xs) front

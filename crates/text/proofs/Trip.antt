@@ -73,9 +73,10 @@ pub number-read : (bs : List ℕ) (n : ℕ) → numberIn bs ≡ Some n → Reads
 number-read bs n e =
     let a = formed bs n e in
     let d = all-digits bs n (a .reads) in
-    let low : fold 0 bs < 100000 = value-short own bs 5 (d .0) (a .few) in
-    ( omega (arith, d .1)
-    , sym (ap decimal (sym (d .1)) ∙ decimal-value own bs (d .0) (a .some) (a .plain) (omega arith)))
+    let low : fold 0 bs < 100000 = value-short own bs 5 (d .0) (a .few) in (
+      omega (arith, d .1),
+      sym (ap decimal (sym (d .1)) ∙ decimal-value own bs (d .0) (a .some) (a .plain) (omega arith)),
+    )
 
 pub reads-exactly : (bs : List ℕ) (n : ℕ) → (numberIn bs ≡ Some n) ↔ Reads bs n
 reads-exactly bs n = (number-read bs n, λ r. ap numberIn (r .1) ∙ number-written n (r .0))

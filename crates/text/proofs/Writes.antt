@@ -21,11 +21,11 @@ module _ (buffer : List ℕ) (at : ℕ) (xs ys : List ℕ) where
       let front : length (take at buffer ++ xs) ≡ at + length xs = simp (length-append, length-take) (omega arith) in
       let split : written buffer at xs ≡ (take at buffer ++ xs) ++ drop (at + length xs) buffer = sym (append-assoc (take at buffer) xs _) in
       let low : take (at + length xs) (written buffer at xs) ≡ take at buffer ++ xs =
-          ap (take (at + length xs)) split ∙ take-at (take at buffer ++ xs) _ (at + length xs) front in
+      ap (take (at + length xs)) split ∙ take-at (take at buffer ++ xs) _ (at + length xs) front in
       let rest : drop (at + length xs) (written buffer at xs) ≡ drop (at + length xs) buffer =
-          ap (drop (at + length xs)) split ∙ drop-at (take at buffer ++ xs) _ (at + length xs) front in
+      ap (drop (at + length xs)) split ∙ drop-at (take at buffer ++ xs) _ (at + length xs) front in
       let past : drop (at + length xs + length ys) (written buffer at xs) ≡ drop (at + length xs + length ys) buffer =
-          sym (drop-drop (length ys) (at + length xs) (written buffer at xs)) ∙ ap (drop (length ys)) rest ∙ drop-drop (length ys) (at + length xs) buffer in
+      sym (drop-drop (length ys) (at + length xs) (written buffer at xs)) ∙ ap (drop (length ys)) rest ∙ drop-drop (length ys) (at + length xs) buffer in
       let end : at + length xs + length ys ≡ at + length (xs ++ ys) = simp length-append (omega arith) in
       ap (λ f. f ++ (ys ++ drop (at + length xs + length ys) (written buffer at xs))) low
       ∙ ap (λ d. (take at buffer ++ xs) ++ (ys ++ d)) past

@@ -16,9 +16,9 @@ returns-in-Yarn c =
     record {
       end = omega (arith, two .end, one .end, ap (λ x. length (contentText x)) (c .in-Yarn .is));
       after =
-        written-also (c .args .buffer .now) (c .args .at) (c .put-bytes-digits .result) (121 ∷ []) (decimal (c .in-Yarn .y)) (one .after) (two .after) (one .end)
-        (omega (arith, c .pre, ap (λ x. length (contentText x)) (c .in-Yarn .is)))
-        ∙ ap (λ x. written (c .args .buffer .now) (c .args .at) (contentText x)) (sym (c .in-Yarn .is));
+          written-also (c .args .buffer .now) (c .args .at) (c .put-bytes-digits .result) (121 ∷ []) (decimal (c .in-Yarn .y)) (one .after) (two .after) (one .end)
+          (omega (arith, c .pre, ap (λ x. length (contentText x)) (c .in-Yarn .is)))
+          ∙ ap (λ x. written (c .args .buffer .now) (c .args .at) (contentText x)) (sym (c .in-Yarn .is));
     }
 
 pub returns-in-Cell : need.returns-in-Cell
@@ -28,7 +28,7 @@ returns-in-Cell c =
     record {
       end = omega (arith, two .end, one .end, ap (λ x. length (contentText x)) (c .in-Cell .is));
       after =
-        written-also (c .args .buffer .now) (c .args .at) (c .put-bytes-digits-in-Cell .result) (99 ∷ []) (decimal (c .in-Cell .k)) (one .after) (two .after) (one .end)
-        (omega (arith, c .pre, ap (λ x. length (contentText x)) (c .in-Cell .is)))
-        ∙ ap (λ x. written (c .args .buffer .now) (c .args .at) (contentText x)) (sym (c .in-Cell .is));
+          written-also (c .args .buffer .now) (c .args .at) (c .put-bytes-digits-in-Cell .result) (99 ∷ []) (decimal (c .in-Cell .k)) (one .after) (two .after) (one .end)
+          (omega (arith, c .pre, ap (λ x. length (contentText x)) (c .in-Cell .is)))
+          ∙ ap (λ x. written (c .args .buffer .now) (c .args .at) (contentText x)) (sym (c .in-Cell .is));
     }

@@ -40,8 +40,8 @@ returns t c =
     record {
       end = omega arith;
       bytes =
-        ap (λ k. set (c .put-digits-last .last .buffer) k (c .last-digit-2 .result)) (c .put-digits-last .ensures .end)
-        ∙ ap (λ b. set b (c .args .at + length (decimal (c .front .result))) (c .last-digit-2 .result)) (c .put-digits-last .ensures .bytes)
-        ∙ one-more _ _ _ _ h
-        ∙ ap (written (c .args .buffer .now) (c .args .at)) (sym (decimal-front _ _ _ (c .if-n-lt10 .left) (omega arith) (c .front .ensures) (c .last-digit-2 .ensures)));
+          ap (λ k. set (c .put-digits-last .last .buffer) k (c .last-digit-2 .result)) (c .put-digits-last .ensures .end)
+          ∙ ap (λ b. set b (c .args .at + length (decimal (c .front .result))) (c .last-digit-2 .result)) (c .put-digits-last .ensures .bytes)
+          ∙ one-more _ _ _ _ h
+          ∙ ap (written (c .args .buffer .now) (c .args .at)) (sym (decimal-front _ _ _ (c .if-n-lt10 .left) (omega arith) (c .front .ensures) (c .last-digit-2 .ensures)));
     }

@@ -15,10 +15,11 @@ with-digit-n-requires c κs = (small (c .loop-b .b-index) _ (omega arith) (c .lo
 pub loop-b-again : need.loop-b-again
 loop-b-again c =
     let d = sym (c .if-not-is-digit .ensures tt) in
-    let e = c .with-digit-n .ensures in
-    ( ap (λ n. readOn n (drop (c .loop-b .b-index + 1) (c .args .text .now))) e
-      ∙ sym (read-more _ _ (c .loop-b .n) (c .loop-b-test .taken) d) ∙ c .loop-b .inv .0
-    , subst (λ n. n < 10 ^ (c .loop-b .b-index + 1)) (sym e) (grows _ _ _ (digit-lt _ d) (c .loop-b .inv .1)))
+    let e = c .with-digit-n .ensures in (
+      ap (λ n. readOn n (drop (c .loop-b .b-index + 1) (c .args .text .now))) e
+          ∙ sym (read-more _ _ (c .loop-b .n) (c .loop-b-test .taken) d) ∙ c .loop-b .inv .0,
+      subst (λ n. n < 10 ^ (c .loop-b .b-index + 1)) (sym e) (grows _ _ _ (digit-lt _ d) (c .loop-b .inv .1)),
+    )
 
 pub returns : need.returns
 returns c = sym (read-end _ _ _ (c .loop-b-test .left)) ∙ c .loop-b .inv .0

@@ -3,7 +3,7 @@ use Prim.Native.Nat.{_*_, _≤_}
 use Rattle.archive.specs.Reading.{due, placeOf}
 use Rattle.report.specs.Survey.{tallyFrom, tallyOn}
 use Rattle.report.specs.Tally.{Upto}
-use Rattle.report.proofs.survey.tally_cells.Given as given
+use Rattle.report.proofs.counting.tally_cells.Given as given
 
 -- what is left, on top of what is counted, gives the whole; and so few cells give so small counts, and there are few
 abbrev pub Inv-loop-cell : given.InvT-loop-cell

@@ -10,14 +10,15 @@ use Rattle.report.specs.Survey.{tallyAnswer, tallyOn}
 use Rattle.report.specs.Tally.{Upto, cellNoted}
 use Rattle.report.proofs.Counts.{cell-upto, upto-more}
 use Rattle.report.proofs.Steps.{tally-fault, tally-none, tally-some}
-use Rattle.report.proofs.survey.tally_cells.Needs as need
+use Rattle.report.proofs.counting.tally_cells.Needs as need
 
 pub loop-cell-holds : need.loop-cell-holds
 loop-cell-holds c =
-    let new = c .new-tally .ensures in
-    ( ap (λ t. tallyOn t (placeOf (c .args .reader))) new
-    , subst (Upto (3 * c .args .reader .next)) (sym new) (omega arith, omega arith, omega arith, omega arith)
-    , c .pre)
+    let new = c .new-tally .ensures in (
+      ap (λ t. tallyOn t (placeOf (c .args .reader))) new,
+      subst (Upto (3 * c .args .reader .next)) (sym new) (omega arith, omega arith, omega arith, omega arith),
+      c .pre,
+    )
 
 pub returns-in-Break-cell : need.returns-in-Break-cell
 returns-in-Break-cell c =
@@ -48,14 +49,15 @@ loop-cell-again c =
     let moved = place-moves place cell given in
     let next : c .next-cell .last .self .next ≡ c .loop-cell .reader .next + 1 = ap (λ q. q .next) (e .place) ∙ moved .next-is in
     let count : c .next-cell .last .self .count ≡ c .loop-cell .reader .count = ap (λ q. q .count) (e .place) ∙ moved .count-is in
-    let more = cell-upto (3 * c .loop-cell .reader .next) tally cell (c .loop-cell .inv .1) in
-    ( ap (λ t. tallyOn t (placeOf (c .next-cell .last .self))) (c .with-cell-tally .ensures)
-      ∙ ap (tallyOn (cellNoted tally cell)) (e .place)
-      ∙ sym (tally-some tally place cell given)
-      ∙ c .loop-cell .inv .0
-    , subst (Upto (3 * c .next-cell .last .self .next)) (sym (c .with-cell-tally .ensures))
-      (upto-more (3 * c .loop-cell .reader .next + 3) (3 * c .next-cell .last .self .next) (cellNoted tally cell) (omega (arith, next)) more)
-    , omega (arith, count, c .loop-cell .inv .2))
+    let more = cell-upto (3 * c .loop-cell .reader .next) tally cell (c .loop-cell .inv .1) in (
+      ap (λ t. tallyOn t (placeOf (c .next-cell .last .self))) (c .with-cell-tally .ensures)
+          ∙ ap (tallyOn (cellNoted tally cell)) (e .place)
+          ∙ sym (tally-some tally place cell given)
+          ∙ c .loop-cell .inv .0,
+      subst (Upto (3 * c .next-cell .last .self .next)) (sym (c .with-cell-tally .ensures))
+          (upto-more (3 * c .loop-cell .reader .next + 3) (3 * c .next-cell .last .self .next) (cellNoted tally cell) (omega (arith, next)) more),
+      omega (arith, count, c .loop-cell .inv .2),
+    )
 
 pub returns : need.returns
 returns c =
