@@ -22,16 +22,20 @@ use Rattle.text.proofs.Cuts.{cut-holds, cut-found}
 use Rattle.text.proofs.Trip.{number-written}
 use Rattle.cells.specs.declared.content.Content.{Content}
 use Rattle.cells.specs.declared.content.Content.the-variants.{Nothing, Yarn, Cell}
-use Rattle.archive.specs.declared.cell.PatternCell.{PatternCell}
-use Rattle.archive.specs.declared.fault.LineFault.the-variants.{Form, Range}
+use Rattle.lines.specs.declared.cell.PatternCell.{PatternCell}
+use Rattle.lines.specs.declared.fault.LineFault.the-variants.{Form, Range}
 use Rattle.archive.specs.declared.fault.FileFault.{FileFault}
 use Rattle.archive.specs.declared.fault.FileFault.the-variants.{OfLine, Version, Numbering, NoLine, Trailing}
-use Rattle.archive.specs.Line.{Fields, header, cell, end, Tabless, body, lineIn, tabbed}
-use Rattle.archive.specs.Pattern.{InRange, among, cellFields, contentText, endFields, headerFields, jointText, lineText}
-use Rattle.archive.specs.Reading.{Place, andThen, asCell, asEnd, asHeading, asLine, cellDue, cellRead, cellValues, contentFits, countFits, endCount, finished, given, goesOn, headerNumbers, inRange, lineAt, lineDue, lineGoesOn, opened, orFault, sameCount, unless, withCount}
-use Rattle.archive.proofs.Forms.{line-holds, line-back}
-use Rattle.archive.proofs.Outcomes.{andThen-ok, step-ok, step-back, unless-ok, unless-back, ok-same, some-same, none-not-some, given-some}
-use Rattle.archive.proofs.Values.{CellIs, Short, cell-values, cell-values-back, content-lacks, decimal-lacks, empty, end-count, header-numbers, joint-lacks}
+use Rattle.lines.specs.Line.{Fields, header, Tabless, body, lineIn}
+use Rattle.lines.specs.Text.{cellFields, endFields, headerFields, lineText}
+use Rattle.lines.specs.Values.{cellValues, endCount, given, headerNumbers}
+use Rattle.archive.specs.Pattern.{InRange}
+use Rattle.archive.specs.Reading.{Place, andThen, asCell, asEnd, asHeading, asLine, cellDue, cellRead, contentFits, countFits, finished, goesOn, inRange, lineAt, lineDue, lineGoesOn, opened, orFault, sameCount, unless, withCount}
+use Rattle.lines.proofs.Forms.{line-holds, line-back}
+use Rattle.lines.proofs.Options.{given-some, none-not-some}
+use Rattle.lines.proofs.Plain.{cell-ends, cell-plain, end-ends, end-plain, header-ends, header-plain, version-is}
+use Rattle.archive.proofs.Outcomes.{andThen-ok, step-ok, step-back, unless-ok, unless-back, ok-same}
+use Rattle.lines.proofs.Values.{CellIs, Short, cell-values, cell-values-back, content-lacks, decimal-lacks, empty, end-count, header-numbers, joint-lacks}
 
 -- Lines.
 
@@ -50,43 +54,6 @@ line-written line f rest plain ends =
     ap (lineAt line) text-is
     ∙ step-back (cutAt 10 (body f ++ (10 ∷ rest))) (NoLine line) (asLine line) (body f, rest) (cut-found 10 (body f) rest ends)
     ∙ step-back (lineIn (body f)) (OfLine (Form line)) (λ fields. Ok (fields, rest)) f (line-back f plain)
-
--- the lines that are written have no tab in a field and no line end before their own
-among-none : (b : ℕ) (xs : List ℕ) → among b xs ≡ false → Lacks b xs
-among-none b [] e = tt
-among-none b (x ∷ xs) e =
-    let here : eqb b x ≡ false = grind (arith, tells) in
-    let more : among b xs ≡ false = grind (arith, tells) in
-    (λ same. eqb-false b x here (sym same), among-none b xs more)
-
-tabbed-lacks : (first more : List ℕ) → Lacks 10 first → Lacks 10 more → Lacks 10 (tabbed first more)
-tabbed-lacks first more a b = all-append (λ x. x ≡ 10 → ⊥) first (9 ∷ more) a (λ e. omega arith, b)
-
-header-plain : (n : ℕ) → n < 100000 → Tabless (headerFields n)
-header-plain n h = (among-none 9 (codes "1") refl, decimal-lacks 9 n (omega arith) (omega arith))
-
-header-ends : (n : ℕ) → n < 100000 → Lacks 10 (body (headerFields n))
-header-ends n h =
-    tabbed-lacks (codes "pattern") (tabbed (codes "1") (decimal n)) (among-none 10 (codes "pattern") refl)
-    (tabbed-lacks (codes "1") (decimal n) (among-none 10 (codes "1") refl) (decimal-lacks 10 n (omega arith) (omega arith)))
-
-cell-plain : (c : PatternCell) → Short (c .left) → Short (c .right) → Tabless (cellFields c)
-cell-plain c l r = (joint-lacks 9 (c .joint) (omega arith), content-lacks 9 (c .left) (omega arith) l, content-lacks 9 (c .right) (omega arith) r)
-
-cell-ends : (c : PatternCell) → Short (c .left) → Short (c .right) → Lacks 10 (body (cellFields c))
-cell-ends c l r =
-    let left = contentText (c .left) in
-    let right = contentText (c .right) in
-    tabbed-lacks (codes "cell") (tabbed (jointText (c .joint)) (tabbed left right)) (among-none 10 (codes "cell") refl)
-    (tabbed-lacks (jointText (c .joint)) (tabbed left right) (joint-lacks 10 (c .joint) (omega arith))
-    (tabbed-lacks left right (content-lacks 10 (c .left) (omega arith) l) (content-lacks 10 (c .right) (omega arith) r)))
-
-end-ends : (n : ℕ) → n < 100000 → Lacks 10 (body (endFields n))
-end-ends n h = tabbed-lacks (codes "end") (decimal n) (among-none 10 (codes "end") refl) (decimal-lacks 10 n (omega arith) (omega arith))
-
--- the version that is written is the number 1
-version-is : decimal 1 ≡ codes "1"
-version-is = decimal-digit 1 (omega arith)
 
 -- The header.
 
@@ -251,6 +218,6 @@ end-written p h e =
     let n = p .count in
     let text : p .rest ≡ lineText (endFields n) ++ [] = e ∙ sym (append-nil (lineText (endFields n))) in
     ap (λ t. andThen (lineAt at t) (asEnd p)) text
-    ∙ ap (λ line. andThen line (asEnd p)) (line-written at (endFields n) [] (decimal-lacks 9 n (omega arith) (omega arith)) (end-ends n h))
+    ∙ ap (λ line. andThen line (asEnd p)) (line-written at (endFields n) [] (end-plain n h) (end-ends n h))
     ∙ step-back (endCount (endFields n)) (OfLine (Form at)) (sameCount p []) n (number-written n h)
     ∙ unless-back (eqb n n) (OfLine (Form at)) (unless (eqb (length {A = ℕ} []) 0) (Trailing (at + 1)) (Ok n)) (eq-eqb n n refl)

@@ -13,10 +13,10 @@ use Rattle.std.specs.declared.option.Option.{Option}
 use Rattle.std.specs.declared.option.Option.the-variants.{Some, None}
 use Rattle.cells.specs.declared.content.Content.{Content}
 use Rattle.cells.specs.declared.content.Content.the-variants.{Nothing, Yarn, Cell}
-use Rattle.archive.specs.declared.cell.PatternCell.{PatternCell}
+use Rattle.lines.specs.declared.cell.PatternCell.{PatternCell}
 use Rattle.archive.specs.Pattern.{Pattern, among, contents, greatest, named}
 use Rattle.archive.specs.Reading.{goesOn}
-use Rattle.archive.proofs.Outcomes.{some-same, none-not-some}
+use Rattle.lines.proofs.Options.{none-not-some, some-same}
 
 -- The numbers that are named, one by one.
 

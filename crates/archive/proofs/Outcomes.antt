@@ -7,35 +7,21 @@ use Rattle.std.specs.declared.option.Option.{Option}
 use Rattle.std.specs.declared.option.Option.the-variants.{Some, None}
 use Rattle.std.specs.declared.result.Result.{Result}
 use Rattle.std.specs.declared.result.Result.the-variants.{Ok, Err}
-use Rattle.archive.specs.Reading.{andThen, orFault, unless, given}
+use Rattle.archive.specs.Reading.{andThen, orFault, unless}
 
 pub ok-same : {X E : Type 0} {x y : X} → _≡_ {A = Result X E} (Ok x) (Ok y) → x ≡ y
 ok-same e = cc
 
-pub some-same : {X : Type 0} {x y : X} → _≡_ {A = Option X} (Some x) (Some y) → x ≡ y
-some-same e = cc
-
 pub err-not-ok : {X E : Type 0} {x : X} {f : E} → _≡_ {A = Result X E} (Err f) (Ok x) → ⊥
 err-not-ok e = let z : _≡_ {A = ℕ} 0 1 = cc in omega arith
-
-pub none-not-some : {X : Type 0} {x : X} → _≡_ {A = Option X} None (Some x) → ⊥
-none-not-some e = let z : _≡_ {A = ℕ} 0 1 = cc in omega arith
 
 pub andThen-ok : {X Y E : Type 0} (r : Result X E) (more : X → Result Y E) (y : Y) → andThen r more ≡ Ok y → (x : X) × (r ≡ Ok x) × (more x ≡ Ok y)
 andThen-ok (Ok x) more y e = (x, refl, e)
 andThen-ok (Err f) more y e = absurd (err-not-ok e)
 
-pub orFault-ok : {X E : Type 0} (o : Option X) (f : E) (x : X) → orFault o f ≡ Ok x → o ≡ Some x
-orFault-ok None f x e = absurd (err-not-ok e)
-orFault-ok (Some y) f x e = ap Some (ok-same e)
-
 pub unless-ok : {X E : Type 0} (good : Bool) (f : E) (more : Result X E) (x : X) → unless good f more ≡ Ok x → (good ≡ true) × (more ≡ Ok x)
 unless-ok true f more x e = (refl, e)
 unless-ok false f more x e = absurd (err-not-ok e)
-
-pub given-some : {X Y : Type 0} (o : Option X) (more : X → Option Y) (y : Y) → given o more ≡ Some y → (x : X) × (o ≡ Some x) × (more x ≡ Some y)
-given-some None more y e = absurd (none-not-some e)
-given-some (Some x) more y e = (x, refl, e)
 
 -- a value that was there, or else a fault
 pub step-ok : {X Y E : Type 0} (o : Option X) (f : E) (more : X → Result Y E) (y : Y) → andThen (orFault o f) more ≡ Ok y → (x : X) × (o ≡ Some x) × (more x ≡ Ok y)

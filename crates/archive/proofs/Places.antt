@@ -10,12 +10,13 @@ use Rattle.std.specs.declared.option.Option.{Option}
 use Rattle.std.specs.declared.option.Option.the-variants.{Some, None}
 use Rattle.std.specs.declared.result.Result.{Result}
 use Rattle.std.specs.declared.result.Result.the-variants.{Ok, Err}
-use Rattle.archive.specs.declared.cell.PatternCell.{PatternCell}
+use Rattle.lines.specs.declared.cell.PatternCell.{PatternCell}
 use Rattle.archive.specs.declared.fault.FileFault.{FileFault}
 use Rattle.archive.specs.Pattern.{Pattern}
 use Rattle.archive.specs.Reading.{Place, andThen, cellDue, cellsFrom, cellGiven, inFront, movedOn, nextCell, placeAfter, behindCells, due}
 use Rattle.archive.proofs.Accepts.{CellRead, cell-read}
-use Rattle.archive.proofs.Outcomes.{ok-same, some-same, err-not-ok, none-not-some}
+use Rattle.lines.proofs.Options.{none-not-some, some-same}
+use Rattle.archive.proofs.Outcomes.{ok-same, err-not-ok}
 
 module _ (p : Place) where
   -- a due cell is the first of what is left

@@ -4,11 +4,11 @@ use mathlib.Core.List.{List}
 use denote.Ref.{RefT}
 use Rattle.std.specs.declared.result.Result.{Result}
 use Rattle.std.specs.declared.result.Result.the-variants.{Ok, Err}
-use Rattle.archive.specs.declared.cell.PatternCell.{PatternCell}
+use Rattle.lines.specs.declared.cell.PatternCell.{PatternCell}
 use Rattle.archive.specs.declared.fault.FileFault.{FileFault}
-use Rattle.archive.specs.declared.line.Line.{Line}
+use Rattle.lines.specs.declared.line.Line.{Line}
 use Rattle.archive.specs.declared.reader.Reader.{Reader}
-use Rattle.archive.specs.Line.{Fields, fieldsOf}
+use Rattle.lines.specs.Line.{Fields, fieldsOf}
 use Rattle.archive.specs.Reading.{Place, placeOf}
 
 abbrev pub lineAnswer : Result (Line × RefT (List ℕ)) FileFault → Result (Fields × List ℕ) FileFault

@@ -1,5 +1,4 @@
 pub mod Answers
 pub mod Fault
-pub mod Line
 pub mod Pattern
 pub mod Reading

@@ -4,66 +4,23 @@
 use mathlib.Core.Bool.{Bool, true, cond, _&&_}
 use mathlib.Core.List.{List, [], _∷_}
 use Prim.Native.Nat.{ℕ, zero, suc, _+_, _-_, max}
-use lib.Chars.{codes}
 use lib.Dec.{leb, ltb, eqb}
 use lib.ListN.{length}
-use Rattle.std.specs.shelf.Text.{sameBytes}
 use Rattle.std.specs.declared.option.Option.{Option}
 use Rattle.std.specs.declared.option.Option.the-variants.{Some, None}
 use Rattle.std.specs.declared.result.Result.{Result}
 use Rattle.std.specs.declared.result.Result.the-variants.{Ok, Err}
 use Rattle.text.specs.Cut.{cutAt}
-use Rattle.text.specs.Number.{numberIn}
 use Rattle.cells.specs.declared.content.Content.{Content}
 use Rattle.cells.specs.declared.content.Content.the-variants.{Nothing, Yarn, Cell}
-use Rattle.cells.specs.declared.content.Joint.{Joint}
-use Rattle.cells.specs.declared.content.Joint.the-variants.{Beside, Above}
-use Rattle.archive.specs.declared.cell.PatternCell.{PatternCell}
-use Rattle.archive.specs.declared.fault.LineFault.{LineFault}
-use Rattle.archive.specs.declared.fault.LineFault.the-variants.{Form, Range}
+use Rattle.lines.specs.declared.cell.PatternCell.{PatternCell}
+use Rattle.lines.specs.declared.fault.LineFault.the-variants.{Form, Range}
+use Rattle.lines.specs.Line.{Fields, lineIn}
+use Rattle.lines.specs.Values.{cellValues, endCount, given, headerNumbers}
 use Rattle.archive.specs.declared.fault.FileFault.{FileFault}
 use Rattle.archive.specs.declared.fault.FileFault.the-variants.{OfLine, Version, Numbering, NoLine, Trailing}
 use Rattle.archive.specs.declared.reader.Reader.{Reader}
-use Rattle.archive.specs.Line.{Fields, header, cell, end, lineIn}
 use Rattle.archive.specs.Pattern.{Pattern}
-
--- Fields as values.
-
-abbrev pub jointIn : List ℕ → Option Joint
-jointIn text = cond (sameBytes text (codes "b")) (Some Beside) (cond (sameBytes text (codes "a")) (Some Above) None)
-
-abbrev pub lettered : ℕ → Option ℕ → Option Content
-lettered letter None = None
-lettered letter (Some n) = cond (eqb letter 121) (Some (Yarn n)) (cond (eqb letter 99) (Some (Cell n)) None)
-
--- `-` with nothing behind it, or `y` or `c` with a number
-abbrev pub byLetter : ℕ → List ℕ → Option Content
-byLetter letter digits = cond (eqb letter 45) (cond (eqb (length digits) 0) (Some Nothing) None) (lettered letter (numberIn digits))
-
-abbrev pub contentIn : List ℕ → Option Content
-contentIn [] = None
-contentIn (letter ∷ digits) = byLetter letter digits
-
--- go on with what is there
-abbrev pub given : {X Y : Type 0} → Option X → (X → Option Y) → Option Y
-given None more = None
-given (Some x) more = more x
-
-abbrev pub headerNumbers : Fields → Option (ℕ × ℕ)
-headerNumbers (header version count) = given (numberIn version) (λ v. given (numberIn count) (λ n. Some (v, n)))
-headerNumbers (cell joint left right) = None
-headerNumbers (end count) = None
-
-abbrev pub cellValues : Fields → Option PatternCell
-cellValues (header version count) = None
-cellValues (cell joint left right) =
-    given (jointIn joint) (λ j. given (contentIn left) (λ l. given (contentIn right) (λ r. Some (record { joint = j; left = l; right = r }))))
-cellValues (end count) = None
-
-abbrev pub endCount : Fields → Option ℕ
-endCount (header version count) = None
-endCount (cell joint left right) = None
-endCount (end count) = numberIn count
 
 -- Ranges and numbering.
 
@@ -104,14 +61,17 @@ placeOf r = record { count = r .count; next = r .next; greatest = r .greatest; r
 abbrev pub lineDue : Place → ℕ
 lineDue p = p .next + 2
 
+-- go on with an accepted value
 abbrev pub andThen : {X Y E : Type 0} → Result X E → (X → Result Y E) → Result Y E
 andThen (Ok x) more = more x
 andThen (Err e) more = Err e
 
+-- a value that is there, or else the fault
 abbrev pub orFault : {X E : Type 0} → Option X → E → Result X E
 orFault None e = Err e
 orFault (Some x) e = Ok x
 
+-- the fault, unless the test is good
 abbrev pub unless : {X E : Type 0} → Bool → E → Result X E → Result X E
 unless good e more = cond good more (Err e)
 

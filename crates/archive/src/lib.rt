@@ -1,28 +1,25 @@
-//! The archive text of a pattern: its lines, its faults, the verdict on a whole text, and the writers of its lines.
-mod cell;
+//! The archive text of a pattern: its faults, a reader, and the verdict on a whole text. The lines are those of `lines`.
 mod fault;
-mod line;
 mod reader;
 mod verdict;
-mod write;
 
-pub use cell::PatternCell;
-pub use cell::PatternCellDebug;
-pub use cell::PatternCellPartialEq;
 pub use fault::FileFault;
 pub use fault::FileFaultDebug;
 pub use fault::FileFaultFromLine;
 pub use fault::FileFaultPartialEq;
-pub use fault::Layer;
-pub use fault::LayerDebug;
-pub use fault::LayerPartialEq;
-pub use fault::LineFault;
-pub use fault::LineFaultDebug;
-pub use fault::LineFaultPartialEq;
-pub use line::Line;
-pub use line::LineDebug;
+pub use lines::Layer;
+pub use lines::LayerDebug;
+pub use lines::LayerPartialEq;
+pub use lines::Line;
+pub use lines::LineDebug;
+pub use lines::LineFault;
+pub use lines::LineFaultDebug;
+pub use lines::LineFaultPartialEq;
+pub use lines::PatternCell;
+pub use lines::PatternCellDebug;
+pub use lines::PatternCellPartialEq;
+pub use lines::write_cell;
+pub use lines::write_end;
+pub use lines::write_header;
 pub use reader::Reader;
 pub use verdict::judge;
-pub use write::write_cell;
-pub use write::write_end;
-pub use write::write_header;

@@ -3,15 +3,12 @@ ghost use mathlib.Core.Path.{_≡_};
 ghost use Prim.Native.Nat.{ℕ, _+_, _<_};
 ghost use Rattle.archive.specs.Reading.{cellDue, contentFits, countFits, finished, goesOn, lineAt, lineDue, lineGoesOn, nextCell, opened, placeAfter, placeOf};
 ghost use Rattle.archive.specs.Answers.{cellAnswer, lineAnswer, openAnswer};
-use crate::cell::PatternCell;
-use crate::cell::cell_values;
-use crate::cell::end_count;
-use crate::cell::header_numbers;
 use crate::fault::FileFault;
 use crate::fault::FileFaultFromLine;
-use crate::fault::LineFault;
-use crate::line::Line;
 use cells::Content;
+use lines::Line;
+use lines::LineFault;
+use lines::PatternCell;
 use text::cut_at;
 
 const LINE_END: u8 = 10;
@@ -87,7 +84,7 @@ impl<'a> Reader<'a> {
         ensures { λ r. ⌜ openAnswer r ≡ opened (now (text .entry)) ⌝ }
     {
         let (line, rest) = line_at(text, 1)?;
-        let (version, count) = header_numbers(line).ok_or(LineFault::Form(1))?;
+        let (version, count) = line.header().ok_or(LineFault::Form(1))?;
         if version != 1 {
             return Err(FileFault::Version(1));
         }
@@ -116,7 +113,7 @@ impl<'a> Reader<'a> {
     {
         let at = self.line_due();
         let (line, rest) = line_at(self.rest, at)?;
-        let cell = cell_values(line).ok_or(LineFault::Form(at))?;
+        let cell = line.cell().ok_or(LineFault::Form(at))?;
         if !(content_fits(self.count, cell.left) && content_fits(self.count, cell.right)) {
             return Err(LineFault::Range(at).into());
         }
@@ -153,7 +150,7 @@ impl<'a> Reader<'a> {
     {
         let at = self.line_due();
         let (line, rest) = line_at(self.rest, at)?;
-        let count = end_count(line).ok_or(LineFault::Form(at))?;
+        let count = line.end().ok_or(LineFault::Form(at))?;
         if count != self.count {
             return Err(LineFault::Form(at).into());
         }

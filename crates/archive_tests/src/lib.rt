@@ -33,9 +33,18 @@ mod tests {
     #[test]
     fn worked_examples() -> Result<(), Fail> {
         check_eq(verdict(b"pattern\t1\t1\ncell\ta\tc0\ty7\nend\t1\n"), (0, 1))?;
-        check_eq(verdict(b"pattern\t1\t1\ncell\ta\tc1\ty7\nend\t1\n"), (11, 2))?;
-        check_eq(verdict(b"pattern\t1\t2\ncell\tb\t-\t-\ncell\tb\t-\t-\nend\t2\n"), (12, 3))?;
-        check_eq(verdict(b"pattern\t1\t2\ncell\tb\tc1\tc1\ncell\tb\ty5\t-\nend\t2\n"), (0, 2))
+        check_eq(
+            verdict(b"pattern\t1\t1\ncell\ta\tc1\ty7\nend\t1\n"),
+            (11, 2),
+        )?;
+        check_eq(
+            verdict(b"pattern\t1\t2\ncell\tb\t-\t-\ncell\tb\t-\t-\nend\t2\n"),
+            (12, 3),
+        )?;
+        check_eq(
+            verdict(b"pattern\t1\t2\ncell\tb\tc1\tc1\ncell\tb\ty5\t-\nend\t2\n"),
+            (0, 2),
+        )
     }
 
     // One text for every fault.
@@ -44,13 +53,22 @@ mod tests {
         check_eq(verdict(b"pattern\t1\tx\n"), (9, 1))?;
         check_eq(verdict(b"pattern\t2\t1\n"), (10, 1))?;
         check_eq(verdict(b"pattern\t1\t0\n"), (11, 1))?;
-        check_eq(verdict(b"pattern\t1\t1\ncell\tb\ty4096\t-\nend\t1\n"), (11, 2))?;
+        check_eq(
+            verdict(b"pattern\t1\t1\ncell\tb\ty4096\t-\nend\t1\n"),
+            (11, 2),
+        )?;
         check_eq(verdict(b"pattern\t1\t3\ncell\tb\tc2\t-\n"), (12, 2))?;
         check_eq(verdict(b"pattern\t1\t1\ncell\tb\t-\t-\n"), (13, 3))?;
-        check_eq(verdict(b"pattern\t1\t1\ncell\tb\t-\t-\nend\t1\n\n"), (14, 4))?;
+        check_eq(
+            verdict(b"pattern\t1\t1\ncell\tb\t-\t-\nend\t1\n\n"),
+            (14, 4),
+        )?;
         check_eq(verdict(b"pattern\t1\t1\ncell\tb\t-\t-\nend\t2\n"), (9, 3))?;
         check_eq(verdict(b"pattern\t1\t1\nend\t1\n"), (9, 2))?;
-        check_eq(verdict(b"pattern\t1\t1\ncell\tb\t-\t-\ncell\tb\t-\t-\n"), (9, 3))
+        check_eq(
+            verdict(b"pattern\t1\t1\ncell\tb\t-\t-\ncell\tb\t-\t-\n"),
+            (9, 3),
+        )
     }
 
     // Where one line breaks two rules, the rule that is asked first is told.
@@ -79,8 +97,14 @@ mod tests {
         check_eq(verdict(b"pattern\t\t1\t1\n"), (9, 1))?;
         check_eq(verdict(b"pattern\t1\t1\ncell\tB\t-\t-\n"), (9, 2))?;
         check_eq(verdict(b"pattern\t1\t1\ncell\tb\t--\t-\n"), (9, 2))?;
-        check_eq(verdict(b"pattern\t1\t2\ncell\tb\t-\t-\ncell\tb\tc1\t-\nend\t2\n"), (12, 3))?;
-        check_eq(verdict(b"pattern\t1\t1\ncell\tb\ty4095\ty0\nend\t1\n"), (0, 1))
+        check_eq(
+            verdict(b"pattern\t1\t2\ncell\tb\t-\t-\ncell\tb\tc1\t-\nend\t2\n"),
+            (12, 3),
+        )?;
+        check_eq(
+            verdict(b"pattern\t1\t1\ncell\tb\ty4095\ty0\nend\t1\n"),
+            (0, 1),
+        )
     }
 
     #[test]
@@ -95,11 +119,20 @@ mod tests {
     #[test]
     fn a_part_is_kept() -> Result<(), Fail> {
         let body = b"cell\ta\tc0\ty7";
-        let Some(Line::Cell { joint: _, left, right }) = Line::read(body) else {
+        let Some(
+            Line::Cell {
+                joint: _,
+                left,
+                right,
+            },
+        ) = Line::read(body)
+        else {
             return Err(Fail::new("no cell line"));
         };
         check(left.len() == 2)?;
-        check_eq(read_number(&right[1..]), Some(7)).note("the right content is the part behind the last tab")
+        check_eq(read_number(&right[1..]), Some(7)).note(
+            "the right content is the part behind the last tab",
+        )
     }
 
     #[test]
@@ -116,7 +149,11 @@ mod tests {
     // The line of cell i in the longest text: each cell names the next one twice, the last one itself.
     fn long_line(i: u32) -> PatternCell {
         let next = if i < 16383 { i.saturating_add(1) } else { i };
-        PatternCell { joint: Joint::Above, left: Content::Cell(next), right: Content::Cell(next) }
+        PatternCell {
+            joint: Joint::Above,
+            left: Content::Cell(next),
+            right: Content::Cell(next),
+        }
     }
 
     #[test]

@@ -4,7 +4,7 @@ use mathlib.Core.List.{List, [], _∷_}
 use Rattle.std.specs.declared.option.Option.the-variants.{Some, None}
 use Rattle.std.specs.declared.result.Result.{Result}
 use Rattle.std.specs.declared.result.Result.the-variants.{Ok, Err}
-use Rattle.archive.specs.declared.cell.PatternCell.{PatternCell}
+use Rattle.lines.specs.declared.cell.PatternCell.{PatternCell}
 use Rattle.archive.specs.declared.fault.FileFault.{FileFault}
 use Rattle.archive.specs.Pattern.{Pattern}
 use Rattle.archive.specs.Reading.{Place, andThen, cellsFrom, due, inFront, nextCell, placeAfter}

@@ -13,7 +13,7 @@ use Rattle.cells.specs.declared.content.Content.{Content}
 use Rattle.cells.specs.declared.content.Content.the-variants.{Nothing, Yarn, Cell}
 use Rattle.cells.specs.declared.content.Joint.{Joint}
 use Rattle.cells.specs.declared.content.Joint.the-variants.{Beside, Above}
-use Rattle.archive.specs.declared.cell.PatternCell.{PatternCell}
+use Rattle.lines.specs.declared.cell.PatternCell.{PatternCell}
 use Rattle.archive.specs.declared.fault.FileFault.{FileFault}
 use Rattle.archive.specs.Fault.{fileLine, fileNumber}
 use Rattle.archive.specs.Pattern.{Pattern, Writes, among, contents, named}

@@ -7,7 +7,7 @@ use Rattle.cells.specs.declared.content.Content.{Content}
 use Rattle.cells.specs.declared.content.Content.the-variants.{Nothing, Yarn, Cell}
 use Rattle.cells.specs.declared.content.Joint.{Joint}
 use Rattle.cells.specs.declared.content.Joint.the-variants.{Beside, Above}
-use Rattle.archive.specs.declared.cell.PatternCell.{PatternCell}
+use Rattle.lines.specs.declared.cell.PatternCell.{PatternCell}
 use Rattle.archive.specs.Pattern.{Pattern}
 use Rattle.report.specs.declared.tally.Tally.{Tally}
 

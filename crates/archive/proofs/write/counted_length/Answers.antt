@@ -1,6 +1,0 @@
-use native.Mathlib.Omega.{arith}
-use Rattle.archive.proofs.Lengths.{counted-length}
-use Rattle.archive.proofs.write.counted_length.Needs as need
-
-pub returns : need.returns
-returns c = omega (arith, counted-length (c .args .words .now) (c .args .count))
