@@ -146,13 +146,14 @@ mod tests {
         check_eq(write_header(&mut buffer, 0, 1), None)
     }
 
-    // The line of cell i in the longest text: each cell names the next one twice, the last one itself.
+    // The line of cell i in the longest text: each content names the next cell while there is one, else the last.
     fn long_line(i: u32) -> PatternCell {
-        let next = if i < 16383 { i.saturating_add(1) } else { i };
+        let left = i.saturating_mul(2).saturating_add(1).min(16383);
+        let right = i.saturating_mul(2).saturating_add(2).min(16383);
         PatternCell {
             joint: Joint::Above,
-            left: Content::Cell(next),
-            right: Content::Cell(next),
+            left: Content::Cell(left),
+            right: Content::Cell(right),
         }
     }
 
@@ -166,6 +167,7 @@ mod tests {
         }
         let length = write_end(&mut text, at, 16384).ok_or("no room for the end")?;
         at = at.saturating_add(length);
+        check_eq(at, 332984)?;
         text.truncate(at);
         check_eq(judge(&text), Ok(16384))
     }
