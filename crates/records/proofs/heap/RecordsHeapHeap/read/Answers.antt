@@ -1,0 +1,10 @@
+use mathlib.Core.Path.{subst}
+use Rattle.cells.specs.Fault.{indexFault}
+use Rattle.cells.proofs.Memory.{read-in}
+use Rattle.cells.proofs.Refused.{Accepted}
+use Rattle.records.proofs.heap.RecordsHeapHeap.read.Needs as need
+
+pub returns : need.returns
+returns c =
+    let a = c .args in
+    λ _. read-in (a .self .now .cells .now) (a .index) (subst (λ n. Accepted (indexFault n (a .index))) (c .limit .ensures) (c .in-Continue-check-index .ensures tt))
