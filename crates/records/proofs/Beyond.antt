@@ -1,29 +1,31 @@
 -- The records beyond the size stay.
-use mathlib.Core.Path.{_≡_, ap, _∙_}
+use mathlib.Core.Path.{_≡_, refl, ap, _∙_}
 use mathlib.Core.List.{List, _++_, map}
 use Prim.Native.Nat.{ℕ, _<_}
 use lib.ListN.{drop, length, set, take}
+use denote.Ref.{at-last, now}
 use Rattle.std.proofs.shelf.Lists.{length-set}
 use Rattle.cells.specs.declared.cell.CellRecord.{CellRecord}
 use Rattle.cells.specs.Front.{sizeFor}
-use Rattle.cells.specs.Record.{exchangedCell, newCell}
-use Rattle.cells.proofs.Memory.{exchange-beyond, exchange-length, fill-beyond, fill-length, set-beyond, size-in}
-use Rattle.records.specs.Records.{SameBeyond, madeIn}
+use Rattle.cells.specs.Record.{exchangedCell}
+use Rattle.cells.proofs.Memory.{exchange-beyond, exchange-length, set-beyond, size-in}
+use Rattle.records.specs.declared.heap.RecordsHeap.{RecordsHeap}
+use Rattle.records.specs.Records.{SameBeyond}
 
-pub made-beyond : (d ds : List CellRecord) → ds ≡ madeIn d → SameBeyond d ds
-made-beyond d ds e = record {
-  long = ap length e ∙ fill-length newCell d (sizeFor (length d)) (size-in d);
-  beyond = ap (drop (sizeFor (length d))) e ∙ fill-beyond newCell d (sizeFor (length d));
-}
+-- the heap with other records in the same memory
+abbrev pub holding : RecordsHeap → List CellRecord → RecordsHeap
+holding h ds = record { cells = at-last (h .cells) ds }
 
-pub set-keeps : (cs ds : List CellRecord) (i : ℕ) (v : CellRecord) → i < sizeFor (length cs) → ds ≡ set cs i v → SameBeyond cs ds
-set-keeps cs ds i v h e = record {
-  long = ap length e ∙ length-set cs i v;
-  beyond = ap (drop (sizeFor (length cs))) e ∙ set-beyond cs (sizeFor (length cs)) i v h;
-}
+pub set-keeps : (h : RecordsHeap) (ds : List CellRecord) (i : ℕ) (v : CellRecord) → i < sizeFor (length (now (h .cells))) → ds ≡ set (now (h .cells)) i v → SameBeyond h (holding h ds)
+set-keeps h ds i v below e = record {
+  long = ap length e ∙ length-set (now (h .cells)) i v;
+  beyond = ap (drop (sizeFor (length (now (h .cells))))) e ∙ set-beyond (now (h .cells)) (sizeFor (length (now (h .cells)))) i v below;
+  lender = refl }
 
-pub exchange-keeps : (cs ds : List CellRecord) → ds ≡ map exchangedCell (take (sizeFor (length cs)) cs) ++ drop (sizeFor (length cs)) cs → SameBeyond cs ds
-exchange-keeps cs ds e = record {
-  long = ap length e ∙ exchange-length cs (sizeFor (length cs)) (size-in cs);
-  beyond = ap (drop (sizeFor (length cs))) e ∙ exchange-beyond cs (sizeFor (length cs)) (size-in cs);
-}
+pub exchange-keeps : (h : RecordsHeap) (ds : List CellRecord) → ds ≡ map exchangedCell (take (sizeFor (length (now (h .cells)))) (now (h .cells))) ++ drop (sizeFor (length (now (h .cells)))) (now (h .cells)) → SameBeyond h (holding h ds)
+exchange-keeps h ds e =
+    let cs = now (h .cells) in
+    record {
+      long = ap length e ∙ exchange-length cs (sizeFor (length cs)) (size-in cs);
+      beyond = ap (drop (sizeFor (length cs))) e ∙ exchange-beyond cs (sizeFor (length cs)) (size-in cs);
+      lender = refl }

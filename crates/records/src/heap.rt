@@ -1,11 +1,10 @@
 //! A heap in the front of a lent slice of cell records.
-ghost use denote.Ref.{name, now as behind};
 ghost use mathlib.Core.Path.{_≡_};
 ghost use lib.ListN.{length};
-ghost use Rattle.cells.specs.Calls.{Lawful, exchangeAnswer, exchangeCells, firstGrey, paintAnswer, paintCells, writeAnswer, writeCells};
+ghost use Rattle.cells.specs.Calls.{exchangeAnswer, exchangeCells, firstGrey, paintAnswer, paintCells, writeAnswer, writeCells};
 ghost use Rattle.cells.specs.Cells.{newCells};
-ghost use Rattle.cells.specs.Front.{cellsIn, sizeFor};
-ghost use Rattle.records.specs.Records.{SameBeyond, madeIn};
+ghost use Rattle.cells.specs.Front.{sizeFor};
+ghost use Rattle.records.specs.Records.{MadeIn, SameBeyond, SoundRecords, cellsOfRecords};
 use crate::memory::exchange_front;
 use crate::memory::first_grey_in;
 use crate::memory::front_length;
@@ -34,11 +33,9 @@ impl<'a> RecordsHeap<'a> {
     // Makes a heap of new cells. The records beyond the size stay as they were, and the memory that the heap
     // writes is the caller's own, which comes back as the heap left it.
     pub fn new(memory: &'a mut [CellRecord]) -> RecordsHeap<'a>
-        ensures memory { λ r. ⌜ now (r .cells) ≡ madeIn (now (memory .entry)) ⌝ }
-        ensures beyond { λ r. ⌜ SameBeyond (now (memory .entry)) (now (r .cells)) ⌝ }
-        ensures lender { λ r. ⌜ name (r .cells) ≡ name (memory .entry) ⌝ }
-        ensures meaning { λ r. ⌜ cellsIn (now (r .cells)) ≡ newCells (sizeFor (length (now (memory .entry)))) ⌝ }
-        ensures sound { λ r. ⌜ Lawful (cellsIn (now (r .cells))) ⌝ }
+        ensures made { λ r. ⌜ MadeIn (memory .entry) r ⌝ }
+        ensures meaning { λ r. ⌜ cellsOfRecords r ≡ newCells (sizeFor (length (now (memory .entry)))) ⌝ }
+        ensures sound { λ r. ⌜ SoundRecords r ⌝ }
     {
         let size = front_length(memory);
         renew_front(memory, size);
@@ -47,14 +44,14 @@ impl<'a> RecordsHeap<'a> {
 
     // How many cells there are.
     fn limit(&self) -> u32
-        ensures { λ r. ⌜ r ≡ sizeFor (length (behind (now (self .entry) .cells))) ⌝ }
+        ensures { λ r. ⌜ r ≡ sizeFor (length (now (now (self .entry) .cells))) ⌝ }
     {
         size_for(self.cells.len())
     }
 
     // The first grey cell from `from` on, sound or not.
     fn grey_from(&self, from: u32) -> Option<u32>
-        ensures { λ r. ⌜ r ≡ firstGrey (cellsIn (behind (now (self .entry) .cells))) from ⌝ }
+        ensures { λ r. ⌜ r ≡ firstGrey (cellsOfRecords (now (self .entry))) from ⌝ }
     {
         first_grey_in(self.cells, from as usize, self.limit() as usize)
     }
@@ -62,9 +59,9 @@ impl<'a> RecordsHeap<'a> {
 
 // Sound if all contents of the cells are in range.
 pub impl<'a> Heap for RecordsHeap<'a> as RecordsHeapHeap {
-    ghost meaning = { λ h. cellsIn (behind (h .cells)) };
+    ghost meaning = { λ h. cellsOfRecords h };
 
-    ghost sound = { λ h. Lawful (cellsIn (behind (h .cells))) };
+    ghost sound = { λ h. SoundRecords h };
 
     ghost lawful = { λ h s. s };
 
@@ -85,11 +82,10 @@ pub impl<'a> Heap for RecordsHeap<'a> as RecordsHeapHeap {
         right: Content,
         tag: Tag,
     ) -> Result<(), HeapFault>
-        ensures result { λ r. ⌜ (Lawful (cellsIn (behind (now (self .entry) .cells))) → r ≡ writeAnswer (cellsIn (behind (now (self .entry) .cells))) index left right) ⌝ }
-        ensures after { λ _. ⌜ (Lawful (cellsIn (behind (now (self .entry) .cells))) → cellsIn (behind (now (self .exit) .cells)) ≡ writeCells (cellsIn (behind (now (self .entry) .cells))) index joint left right tag) ⌝ }
-        ensures kept { λ _. ⌜ (Lawful (cellsIn (behind (now (self .entry) .cells))) → Lawful (cellsIn (behind (now (self .exit) .cells)))) ⌝ }
-        ensures beyond { λ _. ⌜ SameBeyond (behind (now (self .entry) .cells)) (behind (now (self .exit) .cells)) ⌝ }
-        ensures lender { λ _. ⌜ name (now (self .exit) .cells) ≡ name (now (self .entry) .cells) ⌝ }
+        ensures result { λ r. ⌜ (SoundRecords (now (self .entry)) → r ≡ writeAnswer (cellsOfRecords (now (self .entry))) index left right) ⌝ }
+        ensures after { λ _. ⌜ (SoundRecords (now (self .entry)) → cellsOfRecords (now (self .exit)) ≡ writeCells (cellsOfRecords (now (self .entry))) index joint left right tag) ⌝ }
+        ensures kept { λ _. ⌜ (SoundRecords (now (self .entry)) → SoundRecords (now (self .exit))) ⌝ }
+        ensures beyond { λ _. ⌜ SameBeyond (now (self .entry)) (now (self .exit)) ⌝ }
     {
         check_write(self.limit(), index, left, right)?;
         relink_at(self.cells, index as usize, joint, left, right, tag);
@@ -97,11 +93,10 @@ pub impl<'a> Heap for RecordsHeap<'a> as RecordsHeapHeap {
     }
 
     fn paint(&mut self, index: u32, colour: Colour) -> Result<(), HeapFault>
-        ensures result { λ r. ⌜ (Lawful (cellsIn (behind (now (self .entry) .cells))) → r ≡ paintAnswer (cellsIn (behind (now (self .entry) .cells))) index) ⌝ }
-        ensures after { λ _. ⌜ (Lawful (cellsIn (behind (now (self .entry) .cells))) → cellsIn (behind (now (self .exit) .cells)) ≡ paintCells (cellsIn (behind (now (self .entry) .cells))) index colour) ⌝ }
-        ensures kept { λ _. ⌜ (Lawful (cellsIn (behind (now (self .entry) .cells))) → Lawful (cellsIn (behind (now (self .exit) .cells)))) ⌝ }
-        ensures beyond { λ _. ⌜ SameBeyond (behind (now (self .entry) .cells)) (behind (now (self .exit) .cells)) ⌝ }
-        ensures lender { λ _. ⌜ name (now (self .exit) .cells) ≡ name (now (self .entry) .cells) ⌝ }
+        ensures result { λ r. ⌜ (SoundRecords (now (self .entry)) → r ≡ paintAnswer (cellsOfRecords (now (self .entry))) index) ⌝ }
+        ensures after { λ _. ⌜ (SoundRecords (now (self .entry)) → cellsOfRecords (now (self .exit)) ≡ paintCells (cellsOfRecords (now (self .entry))) index colour) ⌝ }
+        ensures kept { λ _. ⌜ (SoundRecords (now (self .entry)) → SoundRecords (now (self .exit))) ⌝ }
+        ensures beyond { λ _. ⌜ SameBeyond (now (self .entry)) (now (self .exit)) ⌝ }
     {
         check_index(self.limit(), index)?;
         repaint_at(self.cells, index as usize, colour);
@@ -113,11 +108,10 @@ pub impl<'a> Heap for RecordsHeap<'a> as RecordsHeapHeap {
     }
 
     fn exchange(&mut self) -> Result<(), HeapFault>
-        ensures result { λ r. ⌜ (Lawful (cellsIn (behind (now (self .entry) .cells))) → r ≡ exchangeAnswer (cellsIn (behind (now (self .entry) .cells)))) ⌝ }
-        ensures after { λ _. ⌜ (Lawful (cellsIn (behind (now (self .entry) .cells))) → cellsIn (behind (now (self .exit) .cells)) ≡ exchangeCells (cellsIn (behind (now (self .entry) .cells)))) ⌝ }
-        ensures kept { λ _. ⌜ (Lawful (cellsIn (behind (now (self .entry) .cells))) → Lawful (cellsIn (behind (now (self .exit) .cells)))) ⌝ }
-        ensures beyond { λ _. ⌜ SameBeyond (behind (now (self .entry) .cells)) (behind (now (self .exit) .cells)) ⌝ }
-        ensures lender { λ _. ⌜ name (now (self .exit) .cells) ≡ name (now (self .entry) .cells) ⌝ }
+        ensures result { λ r. ⌜ (SoundRecords (now (self .entry)) → r ≡ exchangeAnswer (cellsOfRecords (now (self .entry)))) ⌝ }
+        ensures after { λ _. ⌜ (SoundRecords (now (self .entry)) → cellsOfRecords (now (self .exit)) ≡ exchangeCells (cellsOfRecords (now (self .entry)))) ⌝ }
+        ensures kept { λ _. ⌜ (SoundRecords (now (self .entry)) → SoundRecords (now (self .exit))) ⌝ }
+        ensures beyond { λ _. ⌜ SameBeyond (now (self .entry)) (now (self .exit)) ⌝ }
     {
         check_exchange(self.grey_from(0))?;
         let size = self.limit() as usize;

@@ -7,7 +7,6 @@ use Rattle.cells.specs.Front.{cellsIn, sizeFor}
 use Rattle.cells.specs.Record.{newCell}
 use Rattle.cells.proofs.Kept.{new-lawful}
 use Rattle.cells.proofs.Memory.{new-in}
-use Rattle.records.proofs.Beyond.{made-beyond}
 use Rattle.records.proofs.heap.RecordsHeap.new.Needs as need
 
 pub returns : need.returns
@@ -16,9 +15,6 @@ returns c =
     let made = c .renew-front .ensures ∙ ap (λ k. replicate k newCell ++ drop k d) (c .front-length-size .ensures) in
     let fresh = ap cellsIn made ∙ new-in d in
     record {
-      memory = made;
-      beyond = made-beyond d (c .renew-front .last .memory) made;
-      lender = refl;
+      made = record { records = made; lender = refl };
       meaning = fresh;
-      sound = subst Lawful (sym fresh) (new-lawful (sizeFor (length d)) (omega arith));
-    }
+      sound = subst Lawful (sym fresh) (new-lawful (sizeFor (length d)) (omega arith)) }

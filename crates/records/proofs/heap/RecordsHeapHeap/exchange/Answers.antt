@@ -1,4 +1,4 @@
-use mathlib.Core.Path.{refl, sym, subst, ap, _∙_}
+use mathlib.Core.Path.{sym, subst, ap, _∙_}
 use mathlib.Core.List.{_++_, map}
 use lib.ListN.{drop, length, take}
 use Rattle.cells.specs.Calls.{Lawful, exchangeFault, exchangeUnless}
@@ -21,6 +21,5 @@ returns c =
       result = λ _. ok;
       after = λ _. e;
       kept = λ p. subst Lawful (sym e) (exchange-lawful (cellsIn cs) p);
-      beyond = exchange-keeps cs (c .exchange-front .last .memory) whole;
-      lender = refl;
+      beyond = exchange-keeps (c .args .self .now) (c .exchange-front .last .memory) whole;
     }

@@ -1,4 +1,4 @@
-use mathlib.Core.Path.{refl, sym, subst, ap, _∙_}
+use mathlib.Core.Path.{sym, subst, ap, _∙_}
 use lib.ListN.{length}
 use Rattle.cells.specs.Calls.{Lawful}
 use Rattle.cells.specs.Fault.{indexFault}
@@ -19,6 +19,5 @@ returns c =
       result = λ _. ok;
       after = λ _. e;
       kept = λ s. subst Lawful (sym e) (paint-lawful (cellsIn cs) (a .index) (a .colour) s);
-      beyond = set-keeps cs (c .repaint-at .last .memory) (a .index) _ (accepted-below (sizeFor (length cs)) (a .index) ok) (c .repaint-at .ensures);
-      lender = refl;
+      beyond = set-keeps (a .self .now) (c .repaint-at .last .memory) (a .index) _ (accepted-below (sizeFor (length cs)) (a .index) ok) (c .repaint-at .ensures);
     }

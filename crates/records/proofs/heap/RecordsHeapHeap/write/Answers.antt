@@ -1,4 +1,4 @@
-use mathlib.Core.Path.{refl, sym, subst, ap, _∙_}
+use mathlib.Core.Path.{sym, subst, ap, _∙_}
 use lib.ListN.{length}
 use Rattle.cells.specs.Calls.{Lawful}
 use Rattle.cells.specs.Fault.{writeFault}
@@ -19,6 +19,5 @@ returns c =
       result = λ _. ok;
       after = λ _. e;
       kept = λ s. subst Lawful (sym e) (write-lawful (cellsIn cs) (a .index) (a .joint) (a .left) (a .right) (a .tag) s);
-      beyond = set-keeps cs (c .relink-at .last .memory) (a .index) _ (write-below (sizeFor (length cs)) (a .index) (a .left) (a .right) ok) (c .relink-at .ensures);
-      lender = refl;
+      beyond = set-keeps (a .self .now) (c .relink-at .last .memory) (a .index) _ (write-below (sizeFor (length cs)) (a .index) (a .left) (a .right) ok) (c .relink-at .ensures);
     }
