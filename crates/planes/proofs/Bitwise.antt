@@ -38,18 +38,21 @@ power-above j k h =
 
 power-other : (j k : ℕ) → j ≢ k → bitOf (2 ^ k) j ≡ 0
 power-other j k ne = elim (cases-order j k) [
-    inl e ↦ absurd (ne e)
+  | inl e ↦ absurd (ne e)
   | inr o ↦ elim o [
-      inl h ↦ let e : k ≡ suc (k - j - 1) + j = omega arith in ap (λ n. bitOf (2 ^ n) j) e ∙ power-below (k - j - 1) j
-    | inr h ↦ power-above j k h ] ]
+    | inl h ↦ let e : k ≡ suc (k - j - 1) + j = omega arith in ap (λ n. bitOf (2 ^ n) j) e ∙ power-below (k - j - 1) j
+    | inr h ↦ power-above j k h
+  ]
+]
 
 zero-or-one : (n k : ℕ) → (bitOf n k ≡ 0) ⊎ (bitOf n k ≡ 1)
 zero-or-one n k = elim (cases-eq (bitOf n k) 0) [ inl e ↦ inl e | inr ne ↦ inr (omega arith) ]
 
 raised-same : (n k : ℕ) → bitOf (bitOr n (2 ^ k)) k ≡ 1
 raised-same n k = or-bit n (2 ^ k) k ∙ elim (zero-or-one n k) [
-    inl e ↦ simp (e, power-same k)
-  | inr e ↦ simp (e, power-same k) ]
+  | inl e ↦ simp (e, power-same k)
+  | inr e ↦ simp (e, power-same k)
+]
 
 raised-other : (n k j : ℕ) → j ≢ k → bitOf (bitOr n (2 ^ k)) j ≡ bitOf n j
 raised-other n k j ne = or-bit n (2 ^ k) j ∙ ap (bitOr (bitOf n j)) (power-other j k ne) ∙ or-zero-r (bitOf n j)
@@ -75,12 +78,13 @@ pub put-other : (p : List ℕ) (i j : ℕ) (on : Bool) → i < 8 * length p → 
 put-other p i j on h ne =
     let v = withBit (getD p (i / 8) 0) (i % 8) on in
     elim (cases-eq (j / 8) (i / 8)) [
-      inl e ↦ let nk : j % 8 ≢ i % 8 = λ q. ne (omega arith) in
-        ap (λ m. eqb (bitOf (getD (set p (i / 8) v) m 0) (j % 8)) 1) e
-        ∙ ap (λ b. eqb (bitOf b (j % 8)) 1) (getD-set-same p (i / 8) v 0 (omega arith))
-        ∙ ap (λ b. eqb b 1) (with-other (getD p (i / 8) 0) (i % 8) (j % 8) on nk)
-        ∙ ap (λ m. eqb (bitOf (getD p m 0) (j % 8)) 1) (sym e)
-    | inr n ↦ ap (λ b. eqb (bitOf b (j % 8)) 1) (getD-set-other p (i / 8) (j / 8) v 0 n) ]
+      | inl e ↦ let nk : j % 8 ≢ i % 8 = λ q. ne (omega arith) in
+          ap (λ m. eqb (bitOf (getD (set p (i / 8) v) m 0) (j % 8)) 1) e
+          ∙ ap (λ b. eqb (bitOf b (j % 8)) 1) (getD-set-same p (i / 8) v 0 (omega arith))
+          ∙ ap (λ b. eqb b 1) (with-other (getD p (i / 8) 0) (i % 8) (j % 8) on nk)
+          ∙ ap (λ m. eqb (bitOf (getD p m 0) (j % 8)) 1) (sym e)
+      | inr n ↦ ap (λ b. eqb (bitOf b (j % 8)) 1) (getD-set-other p (i / 8) (j / 8) v 0 n)
+    ]
 
 pub put-length : (p : List ℕ) (i : ℕ) (on : Bool) → length (putBit p i on) ≡ length p
 put-length p i on = length-set p (i / 8) (withBit (getD p (i / 8) 0) (i % 8) on)
@@ -89,14 +93,18 @@ put-length p i on = length-set p (i / 8) (withBit (getD p (i / 8) 0) (i % 8) on)
 pub put-rest : (n : ℕ) (p q : List ℕ) (i : ℕ) (on : Bool) → i < n → n ≤ 8 * length p → q ≡ putBit p i on → SameBits n p q
 put-rest n p q i on h room e = record {
   long = ap length e ∙ put-length p i on;
-  beyond = λ j hj. ap (λ x. bitAt x j) e ∙ put-other p i j on (omega arith) (λ s. omega arith) }
+  beyond = λ j hj. ap (λ x. bitAt x j) e ∙ put-other p i j on (omega arith) (λ s. omega arith);
+}
 
 -- one more bit cleared
 pub clear-more : (p q r : List ℕ) (i : ℕ) → Cleared i p q → i < 8 * length q → r ≡ putBit q i false → Cleared (i + 1) p r
 clear-more p q r i c h e = record {
   clear = λ j hj. ap (λ x. bitAt x j) e ∙ elim (cases-eq j i) [
-      inl s ↦ ap (bitAt (putBit q i false)) s ∙ put-same q i false h
-    | inr ne ↦ put-other q i j false h ne ∙ c .clear j (omega arith) ];
+    | inl s ↦ ap (bitAt (putBit q i false)) s ∙ put-same q i false h
+    | inr ne ↦ put-other q i j false h ne ∙ c .clear j (omega arith)
+  ];
   rest = record {
     long = ap length e ∙ put-length q i false ∙ c .rest .long;
-    beyond = λ j hj. ap (λ x. bitAt x j) e ∙ put-other q i j false h (λ s. omega arith) ∙ c .rest .beyond j (omega arith) } }
+    beyond = λ j hj. ap (λ x. bitAt x j) e ∙ put-other q i j false h (λ s. omega arith) ∙ c .rest .beyond j (omega arith);
+  };
+}

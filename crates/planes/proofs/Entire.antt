@@ -64,7 +64,7 @@ module _ (h t : PlanesHeap) (i : ℕ) (c : MarkColour) (p : MarkPainted i c h t)
   mark-cells =
       same-cells (ap now (p .links)) (p .grey) (p .black) (ap now (p .sweep))
       ∙ resized (now (h .links)) (now (h .links)) (putBit (now (h .grey)) i (isGrey c)) (now (h .grey)) (putBit (now (h .mark)) i (isMarkBlack c)) (now (h .mark)) (now (h .sweep)) (now (h .sweep))
-          refl (put-length (now (h .grey)) i (isGrey c)) (put-length (now (h .mark)) i (isMarkBlack c)) refl
+      refl (put-length (now (h .grey)) i (isGrey c)) (put-length (now (h .mark)) i (isMarkBlack c)) refl
       ∙ mark-front (now (h .links)) (now (h .grey)) (now (h .mark)) (now (h .sweep)) (sizeOfPlanes h) i c ok (room .inGrey) (room .inMark)
 
   pub mark-sound : SoundPlanes h → SoundPlanes t
@@ -75,13 +75,15 @@ module _ (h t : PlanesHeap) (i : ℕ) (c : MarkColour) (p : MarkPainted i c h t)
       record {
         cells = subst Lawful (sym mark-cells) (paint-lawful (cellsOfPlanes h) i (Mark c) (s .cells));
         apart = λ j hj on.
-          let lj : j < sizeOfPlanes h = omega (arith, hj, ap (λ x. x .size) mark-cells) in
-          let gj = ap (λ x. bitAt x j) (p .grey) in
-          ap (λ x. bitAt x j) (p .black) ∙ elim (cases-eq j i) [
-            inl e ↦ ap (bitAt (putBit (now (h .mark)) i (isMarkBlack c))) e ∙ put-same (now (h .mark)) i (isMarkBlack c) inMark
-              ∙ not-both c (sym (put-same (now (h .grey)) i (isGrey c) inGrey) ∙ sym (ap (bitAt (putBit (now (h .grey)) i (isGrey c))) e) ∙ sym gj ∙ on)
-          | inr ne ↦ put-other (now (h .mark)) i j (isMarkBlack c) inMark ne
-              ∙ s .apart j lj (sym (put-other (now (h .grey)) i j (isGrey c) inGrey ne) ∙ sym gj ∙ on) ] }
+            let lj : j < sizeOfPlanes h = omega (arith, hj, ap (λ x. x .size) mark-cells) in
+            let gj = ap (λ x. bitAt x j) (p .grey) in
+            ap (λ x. bitAt x j) (p .black) ∙ elim (cases-eq j i) [
+              | inl e ↦ ap (bitAt (putBit (now (h .mark)) i (isMarkBlack c))) e ∙ put-same (now (h .mark)) i (isMarkBlack c) inMark
+                  ∙ not-both c (sym (put-same (now (h .grey)) i (isGrey c) inGrey) ∙ sym (ap (bitAt (putBit (now (h .grey)) i (isGrey c))) e) ∙ sym gj ∙ on)
+              | inr ne ↦ put-other (now (h .mark)) i j (isMarkBlack c) inMark ne
+                  ∙ s .apart j lj (sym (put-other (now (h .grey)) i j (isGrey c) inGrey ne) ∙ sym gj ∙ on)
+            ];
+      }
 
   pub mark-beyond : SameBeyond h t
   mark-beyond =
@@ -92,7 +94,8 @@ module _ (h t : PlanesHeap) (i : ℕ) (c : MarkColour) (p : MarkPainted i c h t)
         grey = put-rest (sizeOfPlanes h) (now (h .grey)) (now (t .grey)) i (isGrey c) below (room .inGrey) (p .grey);
         mark = put-rest (sizeOfPlanes h) (now (h .mark)) (now (t .mark)) i (isMarkBlack c) below (room .inMark) (p .black);
         sweep = untouched (sizeOfPlanes h) (h .sweep) (t .sweep) (p .sweep);
-        lenders = (ap name (p .links), p .lenders .0, p .lenders .1, ap name (p .sweep)) }
+        lenders = (ap name (p .links), p .lenders .0, p .lenders .1, ap name (p .sweep));
+      }
 
 -- paint of a sweep colour
 module _ (h t : PlanesHeap) (i : ℕ) (c : SweepColour) (p : SweepPainted i c h t) (ok : Accepted (indexFault (sizeOfPlanes h) i)) (room : RoomIn h) where
@@ -100,14 +103,15 @@ module _ (h t : PlanesHeap) (i : ℕ) (c : SweepColour) (p : SweepPainted i c h 
   sweep-cells =
       same-cells (ap now (p .links)) (ap now (p .grey)) (ap now (p .mark)) (p .black)
       ∙ resized (now (h .links)) (now (h .links)) (now (h .grey)) (now (h .grey)) (now (h .mark)) (now (h .mark)) (putBit (now (h .sweep)) i (isSweepBlack c)) (now (h .sweep))
-          refl refl refl (put-length (now (h .sweep)) i (isSweepBlack c))
+      refl refl refl (put-length (now (h .sweep)) i (isSweepBlack c))
       ∙ sweep-front (now (h .links)) (now (h .grey)) (now (h .mark)) (now (h .sweep)) (sizeOfPlanes h) i c ok (room .inSweep)
 
   pub sweep-sound : SoundPlanes h → SoundPlanes t
   sweep-sound s = record {
     cells = subst Lawful (sym sweep-cells) (paint-lawful (cellsOfPlanes h) i (Sweep c) (s .cells));
     apart = λ j hj on.
-      ap (λ x. bitAt (now x) j) (p .mark) ∙ s .apart j (omega (arith, hj, ap (λ x. x .size) sweep-cells)) (sym (ap (λ x. bitAt (now x) j) (p .grey)) ∙ on) }
+        ap (λ x. bitAt (now x) j) (p .mark) ∙ s .apart j (omega (arith, hj, ap (λ x. x .size) sweep-cells)) (sym (ap (λ x. bitAt (now x) j) (p .grey)) ∙ on);
+  }
 
   pub sweep-beyond : SameBeyond h t
   sweep-beyond = record {
@@ -116,7 +120,8 @@ module _ (h t : PlanesHeap) (i : ℕ) (c : SweepColour) (p : SweepPainted i c h 
     grey = untouched (sizeOfPlanes h) (h .grey) (t .grey) (p .grey);
     mark = untouched (sizeOfPlanes h) (h .mark) (t .mark) (p .mark);
     sweep = put-rest (sizeOfPlanes h) (now (h .sweep)) (now (t .sweep)) i (isSweepBlack c) (accepted-below (sizeOfPlanes h) i ok) (room .inSweep) (p .black);
-    lenders = (ap name (p .links), ap name (p .grey), ap name (p .mark), p .lender) }
+    lenders = (ap name (p .links), ap name (p .grey), ap name (p .mark), p .lender);
+  }
 
 -- write: only the records change
 module _ (h : PlanesHeap) (links : RefT (List LinkRecord)) (i : ℕ) (j : Joint) (l r : Content) (u : Tag)
@@ -128,13 +133,14 @@ module _ (h : PlanesHeap) (links : RefT (List LinkRecord)) (i : ℕ) (j : Joint)
   write-cells =
       same-cells e refl refl refl
       ∙ resized (set (now (h .links)) i (record { joint = j; left = l; right = r; tag = u })) (now (h .links)) (now (h .grey)) (now (h .grey)) (now (h .mark)) (now (h .mark)) (now (h .sweep)) (now (h .sweep))
-          (length-set (now (h .links)) i (record { joint = j; left = l; right = r; tag = u })) refl refl refl
+      (length-set (now (h .links)) i (record { joint = j; left = l; right = r; tag = u })) refl refl refl
       ∙ write-front (now (h .links)) (now (h .grey)) (now (h .mark)) (now (h .sweep)) (sizeOfPlanes h) i j l r u ok (room .inLinks)
 
   pub write-sound : SoundPlanes h → SoundPlanes written
   write-sound s = record {
     cells = subst Lawful (sym write-cells) (write-lawful (cellsOfPlanes h) i j l r u (s .cells));
-    apart = λ k hk on. s .apart k (omega (arith, hk, ap (λ x. x .size) write-cells)) on }
+    apart = λ k hk on. s .apart k (omega (arith, hk, ap (λ x. x .size) write-cells)) on;
+  }
 
   pub write-beyond : name links ≡ name (h .links) → SameBeyond h written
   write-beyond n = record {
@@ -143,7 +149,8 @@ module _ (h : PlanesHeap) (links : RefT (List LinkRecord)) (i : ℕ) (j : Joint)
     grey = untouched (sizeOfPlanes h) (h .grey) (h .grey) refl;
     mark = untouched (sizeOfPlanes h) (h .mark) (h .mark) refl;
     sweep = untouched (sizeOfPlanes h) (h .sweep) (h .sweep) refl;
-    lenders = (n, refl, refl, refl) }
+    lenders = (n, refl, refl, refl);
+  }
 
 pub all-same : (h : PlanesHeap) → SameBeyond h h
 all-same h = record {
@@ -152,7 +159,8 @@ all-same h = record {
   grey = untouched (sizeOfPlanes h) (h .grey) (h .grey) refl;
   mark = untouched (sizeOfPlanes h) (h .mark) (h .mark) refl;
   sweep = untouched (sizeOfPlanes h) (h .sweep) (h .sweep) refl;
-  lenders = (refl, refl, refl, refl) }
+  lenders = (refl, refl, refl, refl);
+}
 
 -- exchange: the parts of the black planes change
 min-turned : (a b : ℕ) → min a b ≡ min b a
@@ -162,7 +170,7 @@ module _ (h : PlanesHeap) (none : exchangeFault (cellsOfPlanes h) ≡ None) wher
   pub swap-cells : cellsOfPlanes (swappedPlanes h) ≡ exchangeCells (cellsOfPlanes h)
   swap-cells =
       ap (λ x. planesFront (min (length (now (h .links))) (min (8 * length (now (h .grey))) (min x 16384))) (now (h .links)) (now (h .grey)) (now (h .sweep)) (now (h .mark)))
-        (min-turned (8 * length (now (h .sweep))) (8 * length (now (h .mark))))
+      (min-turned (8 * length (now (h .sweep))) (8 * length (now (h .mark))))
       ∙ swap-front (now (h .links)) (now (h .grey)) (now (h .mark)) (now (h .sweep)) (sizeOfPlanes h) (none-found (firstGrey (cellsOfPlanes h) 0) none)
       ∙ ap (λ f. exchangeUnless f (cellsOfPlanes h)) (sym none)
 
@@ -175,8 +183,9 @@ module _ (h : PlanesHeap) (none : exchangeFault (cellsOfPlanes h) ≡ None) wher
   swap-sound s = record {
     cells = subst Lawful (sym swap-cells) (exchange-lawful (cellsOfPlanes h) (s .cells));
     apart = λ j hj on.
-      let lj : j < sizeOfPlanes h = omega (arith, hj, ap (λ x. x .size) swap-cells) in
-      let z : true ≡ false = sym on ∙ no-grey j lj in let o : _≡_ {A = ℕ} 0 1 = cc in absurd (omega arith) }
+        let lj : j < sizeOfPlanes h = omega (arith, hj, ap (λ x. x .size) swap-cells) in
+        let z : true ≡ false = sym on ∙ no-grey j lj in let o : _≡_ {A = ℕ} 0 1 = cc in absurd (omega arith);
+  }
 
 -- making
 module _ (links : RefT (List LinkRecord)) (grey mark sweep : RefT (List ℕ)) (h : PlanesHeap) (made : MadeIn links grey mark sweep h)
@@ -187,10 +196,11 @@ module _ (links : RefT (List LinkRecord)) (grey mark sweep : RefT (List ℕ)) (h
   pub made-cells : cellsOfPlanes h ≡ newCells size
   made-cells =
       resized (now (h .links)) (now links) (now (h .grey)) (now grey) (now (h .mark)) (now mark) (now (h .sweep)) (now sweep)
-        (ap length (made .records) ∙ fill-length newLinks (now links) size (room .inLinks)) (made .greys .rest .long) (made .marks .rest .long) (made .sweeps .rest .long)
+      (ap length (made .records) ∙ fill-length newLinks (now links) size (room .inLinks)) (made .greys .rest .long) (made .marks .rest .long) (made .sweeps .rest .long)
       ∙ new-front (now grey) (now mark) (now sweep) (now (h .grey)) (now (h .mark)) (now (h .sweep)) (now links) (now (h .links)) size (made .records) (made .greys) (made .marks) (made .sweeps)
 
   pub made-sound : SoundPlanes h
   made-sound = record {
     cells = subst Lawful (sym made-cells) (new-lawful size (room .few));
-    apart = λ j hj on. made .marks .clear j (omega (arith, hj, ap (λ x. x .size) made-cells)) }
+    apart = λ j hj on. made .marks .clear j (omega (arith, hj, ap (λ x. x .size) made-cells));
+  }

@@ -72,8 +72,9 @@ clipped-out n i f h = cond-false (ltb i n) (f i) newCell (le-ltb i n h)
 
 clipped-changed : (f g : ℕ → CellRecord) (n i : ℕ) (v : CellRecord) → i < n → ((j : ℕ) → j ≢ i → g j ≡ f j) → g i ≡ v → clipped n g ≡ changedAt (clipped n f) i v
 clipped-changed f g n i v h same here = fun-ext (λ j. elim (cases-eq j i) [
-    inl e ↦ rw e (clipped-in n i g h ∙ here ∙ sym (changed-same (clipped n f) i v))
-  | inr ne ↦ ap (λ x. cond (ltb j n) x newCell) (same j ne) ∙ sym (changed-other (clipped n f) i v j ne) ])
+  | inl e ↦ rw e (clipped-in n i g h ∙ here ∙ sym (changed-same (clipped n f) i v))
+  | inr ne ↦ ap (λ x. cond (ltb j n) x newCell) (same j ne) ∙ sym (changed-other (clipped n f) i v j ne)
+])
 
 module _ (ls : List LinkRecord) (g m s : List ℕ) (n : ℕ) where
   abbrev at : ℕ → CellRecord
@@ -87,12 +88,12 @@ module _ (ls : List LinkRecord) (g m s : List ℕ) (n : ℕ) where
       let hg : i < 8 * length g = omega arith in
       let hm : i < 8 * length m = omega arith in
       ap (cellsOf n) (clipped-changed at (cellFrom ls (putBit g i (isGrey c)) (putBit m i (isMarkBlack c)) s) n i (paintedCell (clipped n at i) (Mark c)) h
-        (λ j ne. ap (λ x. joinedCell (getD ls j newLinks) x (bitAt (putBit m i (isMarkBlack c)) j) (bitAt s j)) (put-other g i j (isGrey c) hg ne)
-          ∙ ap (λ x. joinedCell (getD ls j newLinks) (bitAt g j) x (bitAt s j)) (put-other m i j (isMarkBlack c) hm ne))
-        (ap (λ x. joinedCell (getD ls i newLinks) x (bitAt (putBit m i (isMarkBlack c)) i) (bitAt s i)) (put-same g i (isGrey c) hg)
-          ∙ ap (λ x. joinedCell (getD ls i newLinks) (isGrey c) x (bitAt s i)) (put-same m i (isMarkBlack c) hm)
-          ∙ ap (λ x. paintedCell (at i) (Mark x)) (mark-back c)
-          ∙ ap (λ x. paintedCell x (Mark c)) (sym (clipped-in n i at h))))
+      (λ j ne. ap (λ x. joinedCell (getD ls j newLinks) x (bitAt (putBit m i (isMarkBlack c)) j) (bitAt s j)) (put-other g i j (isGrey c) hg ne)
+      ∙ ap (λ x. joinedCell (getD ls j newLinks) (bitAt g j) x (bitAt s j)) (put-other m i j (isMarkBlack c) hm ne))
+      (ap (λ x. joinedCell (getD ls i newLinks) x (bitAt (putBit m i (isMarkBlack c)) i) (bitAt s i)) (put-same g i (isGrey c) hg)
+      ∙ ap (λ x. joinedCell (getD ls i newLinks) (isGrey c) x (bitAt s i)) (put-same m i (isMarkBlack c) hm)
+      ∙ ap (λ x. paintedCell (at i) (Mark x)) (mark-back c)
+      ∙ ap (λ x. paintedCell x (Mark c)) (sym (clipped-in n i at h))))
       ∙ paint-table n (clipped n at) i (Mark c) ∙ ap (λ f. paintUnless f (planesFront n ls g m s) i (Mark c)) (sym none)
 
   pub sweep-front : (i : ℕ) (c : SweepColour) → Accepted (indexFault n i) → n ≤ 8 * length s
@@ -102,10 +103,10 @@ module _ (ls : List LinkRecord) (g m s : List ℕ) (n : ℕ) where
       let h = accepted-below n i ok in
       let hs : i < 8 * length s = omega arith in
       ap (cellsOf n) (clipped-changed at (cellFrom ls g m (putBit s i (isSweepBlack c))) n i (paintedCell (clipped n at i) (Sweep c)) h
-        (λ j ne. ap (λ x. joinedCell (getD ls j newLinks) (bitAt g j) (bitAt m j) x) (put-other s i j (isSweepBlack c) hs ne))
-        (ap (λ x. joinedCell (getD ls i newLinks) (bitAt g i) (bitAt m i) x) (put-same s i (isSweepBlack c) hs)
-          ∙ ap (λ x. paintedCell (at i) (Sweep x)) (sweep-back c)
-          ∙ ap (λ x. paintedCell x (Sweep c)) (sym (clipped-in n i at h))))
+      (λ j ne. ap (λ x. joinedCell (getD ls j newLinks) (bitAt g j) (bitAt m j) x) (put-other s i j (isSweepBlack c) hs ne))
+      (ap (λ x. joinedCell (getD ls i newLinks) (bitAt g i) (bitAt m i) x) (put-same s i (isSweepBlack c) hs)
+      ∙ ap (λ x. paintedCell (at i) (Sweep x)) (sweep-back c)
+      ∙ ap (λ x. paintedCell x (Sweep c)) (sym (clipped-in n i at h))))
       ∙ paint-table n (clipped n at) i (Sweep c) ∙ ap (λ f. paintUnless f (planesFront n ls g m s) i (Sweep c)) (sym none)
 
   pub write-front : (i : ℕ) (j : Joint) (l r : Content) (t : Tag) → Accepted (writeFault n i l r) → n ≤ length ls
@@ -115,9 +116,9 @@ module _ (ls : List LinkRecord) (g m s : List ℕ) (n : ℕ) where
       let none = accepted-none (writeFault n i l r) ok in
       let h = write-below n i l r ok in
       ap (cellsOf n) (clipped-changed at (cellFrom (set ls i v) g m s) n i (relinkedCell (clipped n at i) j l r t) h
-        (λ k ne. ap (λ x. joinedCell x (bitAt g k) (bitAt m k) (bitAt s k)) (getD-set-other ls i k v newLinks ne))
-        (ap (λ x. joinedCell x (bitAt g i) (bitAt m i) (bitAt s i)) (getD-set-same ls i v newLinks (omega arith))
-          ∙ ap (λ x. relinkedCell x j l r t) (sym (clipped-in n i at h))))
+      (λ k ne. ap (λ x. joinedCell x (bitAt g k) (bitAt m k) (bitAt s k)) (getD-set-other ls i k v newLinks ne))
+      (ap (λ x. joinedCell x (bitAt g i) (bitAt m i) (bitAt s i)) (getD-set-same ls i v newLinks (omega arith))
+      ∙ ap (λ x. relinkedCell x j l r t) (sym (clipped-in n i at h))))
       ∙ write-table n (clipped n at) i j l r t ∙ ap (λ f. writeUnless f (planesFront n ls g m s) i j l r t) (sym none)
 
   -- the grey bits tell the grey cells
@@ -140,14 +141,16 @@ module _ (ls : List LinkRecord) (g m s : List ℕ) (n : ℕ) where
 
   pub swap-front : firstGrey (planesFront n ls g m s) 0 ≡ None → planesFront n ls g s m ≡ exchangeUnless None (planesFront n ls g m s)
   swap-front e = ap (cellsOf n) (fun-ext (λ j. elim (cases-lt j n) [
-      inl h ↦ clipped-in n j (cellFrom ls g s m) h ∙ swap-one j (sym (front-grey j h) ∙ none-grey (planesFront n ls g m s) 0 e j (omega arith) h) ∙ ap exchangedCell (sym (clipped-in n j at h))
-    | inr h ↦ clipped-out n j (cellFrom ls g s m) h ∙ ap exchangedCell (sym (clipped-out n j at h)) ]))
+    | inl h ↦ clipped-in n j (cellFrom ls g s m) h ∙ swap-one j (sym (front-grey j h) ∙ none-grey (planesFront n ls g m s) 0 e j (omega arith) h) ∙ ap exchangedCell (sym (clipped-in n j at h))
+    | inr h ↦ clipped-out n j (cellFrom ls g s m) h ∙ ap exchangedCell (sym (clipped-out n j at h))
+  ]))
 
 pub new-front : (p q r g m s : List ℕ) (d l : List LinkRecord) (n : ℕ) → l ≡ replicate n newLinks ++ drop n d → Cleared n p g → Cleared n q m → Cleared n r s → planesFront n l g m s ≡ newCells n
 new-front p q r g m s d l n e cg cm ct = ap (cellsOf n) (fun-ext (λ j. elim (cases-lt j n) [
-    inl h ↦ clipped-in n j (cellFrom l g m s) h
-        ∙ ap (λ x. joinedCell x (bitAt g j) (bitAt m j) (bitAt s j)) (ap (λ x. getD x j newLinks) e ∙ getD-append-left (replicate n newLinks) (drop n d) newLinks j (omega (arith, length-replicate n newLinks)) ∙ getD-replicate n j newLinks newLinks h)
-        ∙ ap (λ x. joinedCell newLinks x (bitAt m j) (bitAt s j)) (cg .clear j h)
-        ∙ ap (λ x. joinedCell newLinks false x (bitAt s j)) (cm .clear j h)
-        ∙ ap (λ x. joinedCell newLinks false false x) (ct .clear j h)
-  | inr h ↦ clipped-out n j (cellFrom l g m s) h ]))
+  | inl h ↦ clipped-in n j (cellFrom l g m s) h
+      ∙ ap (λ x. joinedCell x (bitAt g j) (bitAt m j) (bitAt s j)) (ap (λ x. getD x j newLinks) e ∙ getD-append-left (replicate n newLinks) (drop n d) newLinks j (omega (arith, length-replicate n newLinks)) ∙ getD-replicate n j newLinks newLinks h)
+      ∙ ap (λ x. joinedCell newLinks x (bitAt m j) (bitAt s j)) (cg .clear j h)
+      ∙ ap (λ x. joinedCell newLinks false x (bitAt s j)) (cm .clear j h)
+      ∙ ap (λ x. joinedCell newLinks false false x) (ct .clear j h)
+  | inr h ↦ clipped-out n j (cellFrom l g m s) h
+]))

@@ -7,6 +7,16 @@ ghost use Rattle.cells.specs.Cells.{newCells};
 ghost use Rattle.cells.specs.Fault.{unlessFault};
 ghost use Rattle.planes.specs.Planes.{Room, planesSize};
 ghost use Rattle.planes.specs.Whole.{MadeIn, MarkPainted, SameBeyond, SoundPlanes, SweepPainted, cellsOfPlanes, sizeOfPlanes, swappedPlanes};
+use crate::bits::clear_bits;
+use crate::bits::first_set;
+use crate::bits::get_bit;
+use crate::bits::is_mark_black;
+use crate::bits::is_sweep_black;
+use crate::bits::set_bit;
+use crate::links::LinkRecord;
+use crate::links::join_cell;
+use crate::links::renew_links;
+use crate::links::set_links;
 use cells::CellRecord;
 use cells::Colour;
 use cells::Content;
@@ -20,16 +30,6 @@ use cells::check_exchange;
 use cells::check_index;
 use cells::check_write;
 use cells::is_grey;
-use crate::bits::clear_bits;
-use crate::bits::first_set;
-use crate::bits::get_bit;
-use crate::bits::is_mark_black;
-use crate::bits::is_sweep_black;
-use crate::bits::set_bit;
-use crate::links::LinkRecord;
-use crate::links::join_cell;
-use crate::links::renew_links;
-use crate::links::set_links;
 
 // The whole lent memory. Cell i is record i and bit i of each plane; what lies beyond the size is never written.
 // A bit of the grey plane says that a cell is grey. The mark and the sweep plane are set for black, and change
@@ -54,7 +54,12 @@ fn room_for(links: usize, grey: usize, mark: usize, sweep: usize) -> usize
 impl<'a> PlanesHeap<'a> {
     // Makes a heap of new cells. What lies beyond the size stays as it was, and the memory that the heap writes
     // is the caller's own, which comes back as the heap left it.
-    pub fn new(links: &'a mut [LinkRecord], grey: &'a mut [u8], mark: &'a mut [u8], sweep: &'a mut [u8]) -> PlanesHeap<'a>
+    pub fn new(
+        links: &'a mut [LinkRecord],
+        grey: &'a mut [u8],
+        mark: &'a mut [u8],
+        sweep: &'a mut [u8],
+    ) -> PlanesHeap<'a>
         ensures made { λ r. ⌜ MadeIn (links .entry) (grey .entry) (mark .entry) (sweep .entry) r ⌝ }
         ensures meaning { λ r. ⌜ cellsOfPlanes r ≡ newCells (planesSize (length (now (links .entry))) (length (now (grey .entry))) (length (now (mark .entry))) (length (now (sweep .entry)))) ⌝ }
         ensures sound { λ r. ⌜ SoundPlanes r ⌝ }
@@ -64,7 +69,12 @@ impl<'a> PlanesHeap<'a> {
         clear_bits(grey, size);
         clear_bits(mark, size);
         clear_bits(sweep, size);
-        PlanesHeap { links, grey, mark, sweep }
+        PlanesHeap {
+            links,
+            grey,
+            mark,
+            sweep,
+        }
     }
 
     // How many cells there are.
@@ -72,7 +82,12 @@ impl<'a> PlanesHeap<'a> {
         ensures size { λ r. ⌜ r ≡ sizeOfPlanes (now (self .entry)) ⌝ }
         ensures room { λ r. ⌜ Room r (length (now (now (self .entry) .links))) (length (now (now (self .entry) .grey))) (length (now (now (self .entry) .mark))) (length (now (now (self .entry) .sweep))) ⌝ }
     {
-        room_for(self.links.len(), self.grey.len(), self.mark.len(), self.sweep.len()) as u32
+        room_for(
+            self.links.len(),
+            self.grey.len(),
+            self.mark.len(),
+            self.sweep.len(),
+        ) as u32
     }
 
     // The first grey cell from `from` on, sound or not.
@@ -125,10 +140,22 @@ pub impl<'a> Heap for PlanesHeap<'a> as PlanesHeapHeap {
     fn read(&self, index: u32) -> Result<CellRecord, HeapFault> {
         check_index(self.limit(), index)?;
         let i = index as usize;
-        Ok(join_cell(self.links[i], get_bit(self.grey, i), get_bit(self.mark, i), get_bit(self.sweep, i)))
+        Ok(join_cell(
+            self.links[i],
+            get_bit(self.grey, i),
+            get_bit(self.mark, i),
+            get_bit(self.sweep, i),
+        ))
     }
 
-    fn write(&mut self, index: u32, joint: Joint, left: Content, right: Content, tag: Tag) -> Result<(), HeapFault>
+    fn write(
+        &mut self,
+        index: u32,
+        joint: Joint,
+        left: Content,
+        right: Content,
+        tag: Tag,
+    ) -> Result<(), HeapFault>
         ensures result { λ r. ⌜ (SoundPlanes (now (self .entry)) → r ≡ writeAnswer (cellsOfPlanes (now (self .entry))) index left right) ⌝ }
         ensures after { λ _. ⌜ (SoundPlanes (now (self .entry)) → cellsOfPlanes (now (self .exit)) ≡ writeCells (cellsOfPlanes (now (self .entry))) index joint left right tag) ⌝ }
         ensures kept { λ _. ⌜ (SoundPlanes (now (self .entry)) → SoundPlanes (now (self .exit))) ⌝ }
@@ -137,7 +164,16 @@ pub impl<'a> Heap for PlanesHeap<'a> as PlanesHeapHeap {
         if let Err(fault) = check_write(self.limit(), index, left, right) {
             return Err(fault);
         }
-        set_links(self.links, index as usize, LinkRecord { joint, left, right, tag });
+        set_links(
+            self.links,
+            index as usize,
+            LinkRecord {
+                joint,
+                left,
+                right,
+                tag,
+            },
+        );
         Ok(())
     }
 

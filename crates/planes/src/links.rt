@@ -24,7 +24,12 @@ pub struct LinkRecord {
 fn new_links() -> LinkRecord
     ensures { λ r. ⌜ r ≡ newLinks ⌝ }
 {
-    LinkRecord { joint: Joint::Beside, left: Content::Nothing, right: Content::Nothing, tag: Tag::Free }
+    LinkRecord {
+        joint: Joint::Beside,
+        left: Content::Nothing,
+        right: Content::Nothing,
+        tag: Tag::Free,
+    }
 }
 
 // Makes the first n records new cells.
@@ -56,6 +61,17 @@ pub fn join_cell(links: LinkRecord, grey: bool, black: bool, swept: bool) -> Cel
     } else {
         MarkColour::White
     };
-    let sweep = if swept { SweepColour::Black } else { SweepColour::White };
-    CellRecord { joint: links.joint, left: links.left, right: links.right, tag: links.tag, mark, sweep }
+    let sweep = if swept {
+        SweepColour::Black
+    } else {
+        SweepColour::White
+    };
+    CellRecord {
+        joint: links.joint,
+        left: links.left,
+        right: links.right,
+        tag: links.tag,
+        mark,
+        sweep,
+    }
 }

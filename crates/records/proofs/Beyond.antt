@@ -20,7 +20,8 @@ pub set-keeps : (h : RecordsHeap) (ds : List CellRecord) (i : ℕ) (v : CellReco
 set-keeps h ds i v below e = record {
   long = ap length e ∙ length-set (now (h .cells)) i v;
   beyond = ap (drop (sizeFor (length (now (h .cells))))) e ∙ set-beyond (now (h .cells)) (sizeFor (length (now (h .cells)))) i v below;
-  lender = refl }
+  lender = refl;
+}
 
 pub exchange-keeps : (h : RecordsHeap) (ds : List CellRecord) → ds ≡ map exchangedCell (take (sizeFor (length (now (h .cells)))) (now (h .cells))) ++ drop (sizeFor (length (now (h .cells)))) (now (h .cells)) → SameBeyond h (holding h ds)
 exchange-keeps h ds e =
@@ -28,4 +29,5 @@ exchange-keeps h ds e =
     record {
       long = ap length e ∙ exchange-length cs (sizeFor (length cs)) (size-in cs);
       beyond = ap (drop (sizeFor (length cs))) e ∙ exchange-beyond cs (sizeFor (length cs)) (size-in cs);
-      lender = refl }
+      lender = refl;
+    }

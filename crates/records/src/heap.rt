@@ -8,6 +8,7 @@ ghost use Rattle.records.specs.Records.{MadeIn, SameBeyond, SoundRecords, cell
 use crate::memory::exchange_front;
 use crate::memory::first_grey_in;
 use crate::memory::front_length;
+use crate::memory::record_at;
 use crate::memory::relink_at;
 use crate::memory::renew_front;
 use crate::memory::repaint_at;
@@ -71,7 +72,7 @@ pub impl<'a> Heap for RecordsHeap<'a> as RecordsHeapHeap {
 
     fn read(&self, index: u32) -> Result<CellRecord, HeapFault> {
         check_index(self.limit(), index)?;
-        Ok(self.cells[index as usize])
+        Ok(record_at(self.cells, index as usize))
     }
 
     fn write(

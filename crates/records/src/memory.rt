@@ -35,6 +35,14 @@ pub fn renew_front(memory: &mut [CellRecord], n: usize)
     }
 }
 
+// Record i.
+pub fn record_at(records: &[CellRecord], i: usize) -> CellRecord
+    requires { ⌜ i < length (now records) ⌝ }
+    ensures { λ r. ⌜ r ≡ getD (now (records .entry)) i newCell ⌝ }
+{
+    records[i]
+}
+
 // Sets joint, contents and tag of record i.
 pub fn relink_at(
     memory: &mut [CellRecord],

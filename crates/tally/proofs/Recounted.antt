@@ -35,5 +35,6 @@ recount-done c i n w (Sweep s) few h e was = omega (arith, e, count-paint c i (S
 pub counted-after : (c : Cells) (i n w : ℕ) (k : Colour) (r : Result (Unit {0}) HeapFault) → c .size ≤ 16384 → n ≡ greyCount c → w ≡ greyAt c i → r ≡ paintAnswer c i
     → afterPaint n r w k ≡ greyCount (paintCells c i k)
 counted-after c i n w k r few e was told = elim (cases-lt i (c .size)) [
-    inl h ↦ ap (λ x. afterPaint n x w k) (told ∙ ap (λ f. answer f tt) (index-in (c .size) i h)) ∙ recount-done c i n w k few h e (was ∙ grey-in c i h)
-  | inr h ↦ ap (λ x. afterPaint n x w k) (told ∙ ap (λ f. answer f tt) (index-out (c .size) i h)) ∙ e ∙ ap (λ f. greyCount (paintUnless f c i k)) (sym (index-out (c .size) i h)) ]
+  | inl h ↦ ap (λ x. afterPaint n x w k) (told ∙ ap (λ f. answer f tt) (index-in (c .size) i h)) ∙ recount-done c i n w k few h e (was ∙ grey-in c i h)
+  | inr h ↦ ap (λ x. afterPaint n x w k) (told ∙ ap (λ f. answer f tt) (index-out (c .size) i h)) ∙ e ∙ ap (λ f. greyCount (paintUnless f c i k)) (sym (index-out (c .size) i h))
+]

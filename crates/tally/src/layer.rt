@@ -1,7 +1,11 @@
 //! A heap with a count of its grey cells on top.
 ghost use mathlib.Core.Path.{_≡_};
 ghost use lib.Dec.{eqb};
+ghost use Rattle.cells.specs.Calls.{exchangeAnswer, exchangeCells};
 ghost use Rattle.cells.specs.Count.{greyCount};
+use crate::count::count_after;
+use crate::count::count_grey;
+use crate::count::grey_at;
 use cells::CellRecord;
 use cells::Colour;
 use cells::Content;
@@ -9,9 +13,6 @@ use cells::Heap;
 use cells::HeapFault;
 use cells::Joint;
 use cells::Tag;
-use crate::count::count_after;
-use crate::count::count_grey;
-use crate::count::grey_at;
 
 // The heap below, and how many of its cells are grey.
 #[derive(Drop)]
@@ -28,6 +29,16 @@ impl<H: Heap> GreyTally<H> {
     {
         let count = count_grey(&below);
         GreyTally { below, count }
+    }
+
+    // Exchanges the colours of the heap below. The count stays: no cell was grey, and none becomes grey.
+    fn exchange_below(&mut self) -> Result<(), HeapFault>
+        ensures result { λ r. ⌜ (sound (now (self .entry) .below) → r ≡ exchangeAnswer (meaning (now (self .entry) .below))) ⌝ }
+        ensures after { λ _. ⌜ (sound (now (self .entry) .below) → meaning (now (self .exit) .below) ≡ exchangeCells (meaning (now (self .entry) .below))) ⌝ }
+        ensures kept { λ _. ⌜ (sound (now (self .entry) .below) → sound (now (self .exit) .below)) ⌝ }
+        ensures count { λ _. ⌜ now (self .exit) .count ≡ now (self .entry) .count ⌝ }
+    {
+        self.below.exchange()
     }
 
     // Is no cell grey?
@@ -54,7 +65,14 @@ pub impl<H: Heap> Heap for GreyTally<H> as GreyTallyHeap {
         self.below.read(index)
     }
 
-    fn write(&mut self, index: u32, joint: Joint, left: Content, right: Content, tag: Tag) -> Result<(), HeapFault> {
+    fn write(
+        &mut self,
+        index: u32,
+        joint: Joint,
+        left: Content,
+        right: Content,
+        tag: Tag,
+    ) -> Result<(), HeapFault> {
         self.below.write(index, joint, left, right, tag)
     }
 
@@ -74,6 +92,6 @@ pub impl<H: Heap> Heap for GreyTally<H> as GreyTallyHeap {
     }
 
     fn exchange(&mut self) -> Result<(), HeapFault> {
-        self.below.exchange()
+        self.exchange_below()
     }
 }

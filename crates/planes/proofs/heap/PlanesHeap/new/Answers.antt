@@ -18,14 +18,17 @@ returns c =
       links = at-last (a .links) (c .renew-links .last .memory);
       grey = at-last (a .grey) (c .clear-bits .last .plane);
       mark = at-last (a .mark) (c .clear-bits-2 .last .plane);
-      sweep = at-last (a .sweep) (c .clear-bits-3 .last .plane) } in
+      sweep = at-last (a .sweep) (c .clear-bits-3 .last .plane);
+    } in
     let made : MadeIn (a .links) (a .grey) (a .mark) (a .sweep) h = record {
       records = c .renew-links .ensures ∙ ap (λ k. replicate k newLinks ++ drop k (a .links .now)) is;
       greys = subst (λ k. Cleared k (a .grey .now) (c .clear-bits .last .plane)) is (c .clear-bits .ensures);
       marks = subst (λ k. Cleared k (a .mark .now) (c .clear-bits-2 .last .plane)) is (c .clear-bits-2 .ensures);
       sweeps = subst (λ k. Cleared k (a .sweep .now) (c .clear-bits-3 .last .plane)) is (c .clear-bits-3 .ensures);
-      lenders = (refl, refl, refl, refl) } in
+      lenders = (refl, refl, refl, refl);
+    } in
     record {
       made = made;
       meaning = made-cells (a .links) (a .grey) (a .mark) (a .sweep) h made room;
-      sound = made-sound (a .links) (a .grey) (a .mark) (a .sweep) h made room }
+      sound = made-sound (a .links) (a .grey) (a .mark) (a .sweep) h made room;
+    }

@@ -16,4 +16,5 @@ returns c =
       result = λ _. ok;
       after = λ _. ap cellsOfPlanes e ∙ swap-cells h none;
       kept = λ s. subst SoundPlanes (sym e) (swap-sound h none s);
-      parts = e ∙ ap (λ f. unlessFault f (swappedPlanes h) h) (sym none) }
+      parts = e ∙ ap (λ f. unlessFault f (swappedPlanes h) h) (sym none);
+    }

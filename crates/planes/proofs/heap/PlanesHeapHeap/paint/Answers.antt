@@ -19,7 +19,8 @@ returns-in-Mark c =
       result = λ _. ok;
       after = λ _. mark-cells h t (a .index) (c .in-Mark .mark) p ok room ∙ ap (paintCells (cellsOfPlanes h) (a .index)) (sym (c .in-Mark .is));
       kept = λ s. mark-sound h t (a .index) (c .in-Mark .mark) p ok room s;
-      beyond = mark-beyond h t (a .index) (c .in-Mark .mark) p ok room }
+      beyond = mark-beyond h t (a .index) (c .in-Mark .mark) p ok room;
+    }
 
 pub returns-in-Sweep : need.returns-in-Sweep
 returns-in-Sweep c =
@@ -34,4 +35,5 @@ returns-in-Sweep c =
       result = λ _. ok;
       after = λ _. sweep-cells h t (a .index) (c .in-Sweep .sweep) p ok room ∙ ap (paintCells (cellsOfPlanes h) (a .index)) (sym (c .in-Sweep .is));
       kept = λ s. sweep-sound h t (a .index) (c .in-Sweep .sweep) p ok room s;
-      beyond = sweep-beyond h t (a .index) (c .in-Sweep .sweep) p ok room }
+      beyond = sweep-beyond h t (a .index) (c .in-Sweep .sweep) p ok room;
+    }

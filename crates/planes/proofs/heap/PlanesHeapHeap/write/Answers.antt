@@ -18,7 +18,8 @@ returns c =
       result = λ _. ok;
       after = λ _. write-cells h links (a .index) (a .joint) (a .left) (a .right) (a .tag) (c .set-links .ensures) ok room;
       kept = λ s. write-sound h links (a .index) (a .joint) (a .left) (a .right) (a .tag) (c .set-links .ensures) ok room s;
-      beyond = write-beyond h links (a .index) (a .joint) (a .left) (a .right) (a .tag) (c .set-links .ensures) ok room refl }
+      beyond = write-beyond h links (a .index) (a .joint) (a .left) (a .right) (a .tag) (c .set-links .ensures) ok room refl;
+    }
 
 pub returns-in-Err : need.returns-in-Err
 returns-in-Err c =
@@ -29,4 +30,5 @@ returns-in-Err c =
       result = λ _. no;
       after = λ _. write-declined (cellsOfPlanes h) (a .index) (a .joint) (a .left) (a .right) (a .tag) (c .in-Err .fault) no;
       kept = λ s. s;
-      beyond = all-same h }
+      beyond = all-same h;
+    }

@@ -17,4 +17,5 @@ returns c =
     record {
       made = record { records = made; lender = refl };
       meaning = fresh;
-      sound = subst Lawful (sym fresh) (new-lawful (sizeFor (length d)) (omega arith)) }
+      sound = subst Lawful (sym fresh) (new-lawful (sizeFor (length d)) (omega arith));
+    }

@@ -10,8 +10,11 @@ returns g c =
     record {
       result = λ s. e .result (s .0);
       after = λ s. e .after (s .0);
-      kept = λ s. (e .kept (s .0),
+      kept = λ s. (
+        e .kept (s .0),
         c .count-after-self .ensures
-        ∙ counted-after (g .H·Heap .meaning b) (c .args .index) (c .args .self .now .count) (c .grey-at-was .result) (c .args .colour) (c .paint-painted .result)
+            ∙ counted-after (g .H·Heap .meaning b) (c .args .index) (c .args .self .now .count) (c .grey-at-was .result) (c .args .colour) (c .paint-painted .result)
             (g .H·Heap .lawful b (s .0) .few) (s .1) (c .grey-at-was .ensures .exact (s .0)) (e .result (s .0))
-        ∙ ap greyCount (sym (e .after (s .0)))) }
+            ∙ ap greyCount (sym (e .after (s .0))),
+      );
+    }
