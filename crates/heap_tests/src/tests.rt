@@ -1,8 +1,10 @@
 //! Every heap at the sizes where something changes.
+use crate::calls::exchanges_last;
+use crate::calls::exchanges_none;
+use crate::calls::greys_last;
 use crate::calls::is_new;
 use crate::calls::refuses_writes;
 use crate::calls::shades;
-use crate::calls::uses_last;
 use cells::CellRecord;
 use cells::CellRecordDebug;
 use cells::CellRecordPartialEq;
@@ -46,10 +48,12 @@ const OLD_LINKS: LinkRecord = LinkRecord {
 fn all_calls<H: Heap>(heap: &mut H, size: u32) -> Result<(), Fail> {
     is_new(heap, size)?;
     if size == 0 {
-        return check_eq(heap.exchange(), Ok(()));
+        return exchanges_none(heap);
     }
     refuses_writes(heap, size)?;
-    uses_last(heap, size - 1, size)
+    greys_last(heap, size - 1, size)?;
+    exchanges_last(heap, size - 1)?;
+    greys_last(heap, size - 1, size)
 }
 
 #[test]
