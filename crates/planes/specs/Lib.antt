@@ -1,0 +1,3 @@
+pub mod Bits
+pub mod Planes
+pub mod Whole
