@@ -22,6 +22,7 @@ use Rattle.text.proofs.Cuts.{cut-holds, cut-found}
 use Rattle.text.proofs.Trip.{number-written}
 use Rattle.cells.specs.declared.content.Content.{Content}
 use Rattle.cells.specs.declared.content.Content.the-variants.{Nothing, Yarn, Cell}
+use Rattle.cells.specs.Calls.{InRange}
 use Rattle.lines.specs.declared.cell.PatternCell.{PatternCell}
 use Rattle.lines.specs.declared.fault.LineFault.the-variants.{Form, Range}
 use Rattle.archive.specs.declared.fault.FileFault.{FileFault}
@@ -29,7 +30,6 @@ use Rattle.archive.specs.declared.fault.FileFault.the-variants.{OfLine, Versio
 use Rattle.lines.specs.Line.{Fields, header, Tabless, body, lineIn}
 use Rattle.lines.specs.Text.{cellFields, endFields, headerFields, lineText}
 use Rattle.lines.specs.Values.{cellValues, endCount, given, headerNumbers}
-use Rattle.archive.specs.Pattern.{InRange}
 use Rattle.archive.specs.Reading.{Place, andThen, asCell, asEnd, asHeading, asLine, cellDue, cellRead, contentFits, countFits, finished, goesOn, inRange, lineAt, lineDue, lineGoesOn, opened, orFault, sameCount, unless, withCount}
 use Rattle.lines.proofs.Forms.{line-holds, line-back}
 use Rattle.lines.proofs.Options.{given-some, none-not-some}

@@ -11,10 +11,11 @@ use Rattle.std.specs.shelf.Lists.{All}
 use Rattle.std.specs.declared.option.Option.the-variants.{Some}
 use Rattle.std.specs.declared.result.Result.{Result}
 use Rattle.std.specs.declared.result.Result.the-variants.{Ok, Err}
+use Rattle.cells.specs.Calls.{InRange}
 use Rattle.lines.specs.declared.cell.PatternCell.{PatternCell}
 use Rattle.archive.specs.declared.fault.FileFault.{FileFault}
 use Rattle.lines.specs.Text.{cellFields, endFields, headerFields, lineText}
-use Rattle.archive.specs.Pattern.{InRange, Numbered, OnePattern, Pattern, Writes, WritesSome, cellsText, contents, greatest, named}
+use Rattle.archive.specs.Pattern.{Numbered, OnePattern, Pattern, Writes, WritesSome, cellsText, contents, greatest, named}
 use Rattle.archive.specs.Reading.{Place, andThen, behindCells, cellDue, cellsAndEnd, cellsFrom, due, ending, finished, goesOn, inFront, judged, opened, patternIn}
 use Rattle.archive.proofs.Accepts.{CellRead, GoesOn, HeaderRead, cell-read, cell-written, end-read, end-written, header-read, header-written}
 use Rattle.archive.proofs.Numbering.{Follows, Met, behind-content, behindCell, content-follows, each-follows, follows-content, follows-each, greatest-append, met-named, named-append, named-met}

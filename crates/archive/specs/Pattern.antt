@@ -8,6 +8,7 @@ use lib.ListN.{length, take}
 use Rattle.std.specs.shelf.Lists.{All}
 use Rattle.cells.specs.declared.content.Content.{Content}
 use Rattle.cells.specs.declared.content.Content.the-variants.{Nothing, Yarn, Cell}
+use Rattle.cells.specs.Calls.{InRange}
 use Rattle.lines.specs.declared.cell.PatternCell.{PatternCell}
 use Rattle.lines.specs.Text.{cellFields, endFields, headerFields, lineText}
 
@@ -49,12 +50,6 @@ greatest (k ∷ ks) = max k (greatest ks)
 abbrev pub among : ℕ → List ℕ → Bool
 among k [] = false
 among k (x ∷ xs) = eqb k x || among k xs
-
--- a yarn that exists, or one of n cells
-abbrev pub InRange : ℕ → Content → Type 0
-InRange n Nothing = Unit {0}
-InRange n (Yarn y) = y ≤ 4095
-InRange n (Cell k) = k < n
 
 -- A pattern that may be archived: 1 to 16,384 cells, its contents in range, and numbered in the order of first
 -- meeting. So the line of a cell stands only behind a line that names it, unless it is cell 0, and a content names

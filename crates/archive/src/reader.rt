@@ -6,16 +6,14 @@ ghost use Rattle.archive.specs.Answers.{cellAnswer, lineAnswer, openAnswer};
 use crate::fault::FileFault;
 use crate::fault::FileFaultFromLine;
 use cells::Content;
+use cells::LAST_YARN;
+use cells::MOST_CELLS;
 use lines::Line;
 use lines::LineFault;
 use lines::PatternCell;
 use text::cut_at;
 
 const LINE_END: u8 = 10;
-
-const MOST_CELLS: u32 = 16_384;
-
-const LAST_YARN: u32 = 4_095;
 
 // A place in a text: behind the header and the lines of the cells before `next`.
 #[derive(Clone, Copy)]

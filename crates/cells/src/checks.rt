@@ -10,19 +10,15 @@ use crate::cell::SweepColour;
 use crate::cell::Tag;
 use crate::content::Content;
 use crate::content::Joint;
+use crate::content::LAST_YARN;
+use crate::content::MOST_CELLS;
 use crate::fault::HeapFault;
-
-// The highest number of a yarn.
-const LAST_YARN: u32 = 4095;
-
-// No heap has more cells.
-const MOST_CELLS: usize = 16384;
 
 // How many of so many records are cells.
 pub fn size_for(records: usize) -> u32
     ensures { λ r. ⌜ r ≡ sizeFor records ⌝ }
 {
-    records.min(MOST_CELLS) as u32
+    records.min(MOST_CELLS as usize) as u32
 }
 
 // Is there a cell of this number?

@@ -1,5 +1,11 @@
 //! What a cell can hold, and how its two contents are joined.
 
+// The highest number of a yarn.
+pub const LAST_YARN: u32 = 4095;
+
+// No store and no pattern has more cells.
+pub const MOST_CELLS: u32 = 16384;
+
 // What a hold or one side of a cell contains. The numbers are as they came:
 // a yarn above the last one and a cell that does not exist can be written down, so that
 // whoever is handed one can refuse it.

@@ -35,6 +35,8 @@ pub use content::ContentPartialEq;
 pub use content::Joint;
 pub use content::JointDebug;
 pub use content::JointPartialEq;
+pub use content::LAST_YARN;
+pub use content::MOST_CELLS;
 pub use fault::HeapFault;
 pub use fault::HeapFaultDebug;
 pub use fault::HeapFaultPartialEq;

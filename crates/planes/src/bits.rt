@@ -8,7 +8,7 @@ use cells::MarkColour;
 use cells::SweepColour;
 
 // Is bit i set?
-pub fn get_bit(plane: &[u8], i: usize) -> bool
+pub(crate) fn get_bit(plane: &[u8], i: usize) -> bool
     requires { ⌜ i < 8 * length (now plane) ⌝ }
     ensures { λ r. ⌜ r ≡ bitAt (now (plane .entry)) i ⌝ }
 {
@@ -26,7 +26,7 @@ fn with_bit(byte: u8, k: usize, on: bool) -> u8
 }
 
 // Sets or clears bit i, and no other.
-pub fn set_bit(plane: &mut [u8], i: usize, on: bool)
+pub(crate) fn set_bit(plane: &mut [u8], i: usize, on: bool)
     requires { ⌜ i < 8 * length (now plane) ⌝ }
     ensures { λ _. ⌜ now (plane .exit) ≡ putBit (now (plane .entry)) i on ⌝ }
 {
@@ -34,7 +34,7 @@ pub fn set_bit(plane: &mut [u8], i: usize, on: bool)
 }
 
 // Clears the bits below n, and no other.
-pub fn clear_bits(plane: &mut [u8], n: usize)
+pub(crate) fn clear_bits(plane: &mut [u8], n: usize)
     requires { ⌜ n ≤ 8 * length (now plane) ⌝ }
     ensures { λ _. ⌜ Cleared n (now (plane .entry)) (now (plane .exit)) ⌝ }
 {
@@ -45,7 +45,7 @@ pub fn clear_bits(plane: &mut [u8], n: usize)
 
 // The first bit that is set, from `from` on and below `size`. Bits at the size and above are never
 // reported, not even those in the byte of the last one below it.
-pub fn first_set(plane: &[u8], from: usize, size: usize) -> Option<usize>
+pub(crate) fn first_set(plane: &[u8], from: usize, size: usize) -> Option<usize>
     requires { ⌜ size ≤ 8 * length (now plane) ⌝ ∗ ⌜ size ≤ 16384 ⌝ }
     ensures { λ r. ⌜ FirstSet (now (plane .entry)) from size r ⌝ }
 {
@@ -64,7 +64,7 @@ pub fn first_set(plane: &[u8], from: usize, size: usize) -> Option<usize>
     found
 }
 
-pub fn is_mark_black(mark: MarkColour) -> bool
+pub(crate) fn is_mark_black(mark: MarkColour) -> bool
     ensures { λ r. ⌜ r ≡ isMarkBlack mark ⌝ }
 {
     match mark {
@@ -73,7 +73,7 @@ pub fn is_mark_black(mark: MarkColour) -> bool
     }
 }
 
-pub fn is_sweep_black(sweep: SweepColour) -> bool
+pub(crate) fn is_sweep_black(sweep: SweepColour) -> bool
     ensures { λ r. ⌜ r ≡ isSweepBlack sweep ⌝ }
 {
     match sweep {

@@ -33,7 +33,7 @@ fn new_links() -> LinkRecord
 }
 
 // Makes the first n records new cells.
-pub fn renew_links(memory: &mut [LinkRecord], n: usize)
+pub(crate) fn renew_links(memory: &mut [LinkRecord], n: usize)
     requires { ⌜ n ≤ length (now memory) ⌝ }
     ensures { λ _. ⌜ now (memory .exit) ≡ replicate n newLinks ++ drop n (now (memory .entry)) ⌝ }
 {
@@ -43,7 +43,7 @@ pub fn renew_links(memory: &mut [LinkRecord], n: usize)
 }
 
 // Writes record i.
-pub fn set_links(memory: &mut [LinkRecord], i: usize, links: LinkRecord)
+pub(crate) fn set_links(memory: &mut [LinkRecord], i: usize, links: LinkRecord)
     requires { ⌜ i < length (now memory) ⌝ }
     ensures { λ _. ⌜ now (memory .exit) ≡ set (now (memory .entry)) i links ⌝ }
 {
@@ -51,7 +51,7 @@ pub fn set_links(memory: &mut [LinkRecord], i: usize, links: LinkRecord)
 }
 
 // All of a cell, from its record and its bits of the grey, the mark and the sweep plane.
-pub fn join_cell(links: LinkRecord, grey: bool, black: bool, swept: bool) -> CellRecord
+pub(crate) fn join_cell(links: LinkRecord, grey: bool, black: bool, swept: bool) -> CellRecord
     ensures { λ r. ⌜ r ≡ joinedCell links grey black swept ⌝ }
 {
     let mark = if grey {

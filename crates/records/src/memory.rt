@@ -19,14 +19,14 @@ use cells::repainted;
 use cells::size_for;
 
 // How many of the records are cells: those in front.
-pub fn front_length(memory: &[CellRecord]) -> usize
+pub(crate) fn front_length(memory: &[CellRecord]) -> usize
     ensures { λ r. ⌜ r ≡ sizeFor (length (now (memory .entry))) ⌝ }
 {
     size_for(memory.len()) as usize
 }
 
 // Makes the first n records new cells.
-pub fn renew_front(memory: &mut [CellRecord], n: usize)
+pub(crate) fn renew_front(memory: &mut [CellRecord], n: usize)
     requires { ⌜ n ≤ length (now memory) ⌝ }
     ensures { λ _. ⌜ now (memory .exit) ≡ replicate n newCell ++ drop n (now (memory .entry)) ⌝ }
 {
@@ -36,7 +36,7 @@ pub fn renew_front(memory: &mut [CellRecord], n: usize)
 }
 
 // Record i.
-pub fn record_at(records: &[CellRecord], i: usize) -> CellRecord
+pub(crate) fn record_at(records: &[CellRecord], i: usize) -> CellRecord
     requires { ⌜ i < length (now records) ⌝ }
     ensures { λ r. ⌜ r ≡ getD (now (records .entry)) i newCell ⌝ }
 {
@@ -44,7 +44,7 @@ pub fn record_at(records: &[CellRecord], i: usize) -> CellRecord
 }
 
 // Sets joint, contents and tag of record i.
-pub fn relink_at(
+pub(crate) fn relink_at(
     memory: &mut [CellRecord],
     i: usize,
     joint: Joint,
@@ -59,7 +59,7 @@ pub fn relink_at(
 }
 
 // Sets the named colour of record i.
-pub fn repaint_at(memory: &mut [CellRecord], i: usize, colour: Colour)
+pub(crate) fn repaint_at(memory: &mut [CellRecord], i: usize, colour: Colour)
     requires { ⌜ i < length (now memory) ⌝ }
     ensures { λ _. ⌜ now (memory .exit) ≡ set (now (memory .entry)) i (paintedCell (getD (now (memory .entry)) i newCell) colour) ⌝ }
 {
@@ -75,7 +75,7 @@ fn exchange_at(memory: &mut [CellRecord], i: usize)
 }
 
 // Exchanges the two colours of each of the first n records.
-pub fn exchange_front(memory: &mut [CellRecord], n: usize)
+pub(crate) fn exchange_front(memory: &mut [CellRecord], n: usize)
     requires { ⌜ n ≤ length (now memory) ⌝ }
     ensures { λ _. ⌜ now (memory .exit) ≡ map exchangedCell (take n (now (memory .entry))) ++ drop n (now (memory .entry)) ⌝ }
 {
@@ -85,7 +85,7 @@ pub fn exchange_front(memory: &mut [CellRecord], n: usize)
 }
 
 // The first grey record from `from` on and below n.
-pub fn first_grey_in(memory: &[CellRecord], from: usize, n: usize) -> Option<u32>
+pub(crate) fn first_grey_in(memory: &[CellRecord], from: usize, n: usize) -> Option<u32>
     requires { ⌜ n ≤ length (now memory) ⌝ ∗ ⌜ n ≤ 16384 ⌝ }
     ensures { λ r. ⌜ r ≡ firstGrey (frontCells n (now (memory .entry))) from ⌝ }
 {

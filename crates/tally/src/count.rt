@@ -9,7 +9,7 @@ use cells::HeapFault;
 use cells::grey_weight;
 
 // 1 if there is such a cell and it is grey, else 0.
-pub fn grey_at<H: Heap>(heap: &H, index: u32) -> u32
+pub(crate) fn grey_at<H: Heap>(heap: &H, index: u32) -> u32
     ensures small { λ r. ⌜ r ≤ 1 ⌝ }
     ensures exact { λ r. ⌜ (sound (now (heap .entry)) → r ≡ greyAt (meaning (now (heap .entry))) index) ⌝ }
 {
@@ -20,7 +20,7 @@ pub fn grey_at<H: Heap>(heap: &H, index: u32) -> u32
 }
 
 // How many cells are grey.
-pub fn count_grey<H: Heap>(heap: &H) -> u32
+pub(crate) fn count_grey<H: Heap>(heap: &H) -> u32
     ensures { λ r. ⌜ (sound (now (heap .entry)) → r ≡ greyCount (meaning (now (heap .entry)))) ⌝ }
 {
     let mut count = 0;
@@ -42,7 +42,12 @@ fn recounted(count: u32, was: u32, colour: Colour) -> u32
 }
 
 // The count after a paint of a cell that counted `was`: a refused one leaves it.
-pub fn count_after(count: u32, painted: Result<(), HeapFault>, was: u32, colour: Colour) -> u32
+pub(crate) fn count_after(
+    count: u32,
+    painted: Result<(), HeapFault>,
+    was: u32,
+    colour: Colour,
+) -> u32
     ensures { λ r. ⌜ r ≡ afterPaint count painted was colour ⌝ }
 {
     match painted {
