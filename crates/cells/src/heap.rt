@@ -49,7 +49,7 @@ pub trait Heap {
 
     // The lowest grey cell numbered `from` or more, if there is one.
     fn first_grey(&self, from: u32) -> Option<u32>
-        ensures { λ r. ⌜ (sound (now (self .entry)) → r ≡ firstGrey (meaning (now (self .entry))) from) ⌝ };
+        ensures found { λ r. ⌜ (sound (now (self .entry)) → r ≡ firstGrey (meaning (now (self .entry))) from) ⌝ };
 
     // In every cell the two colours change places, so that what was marked is swept next; refused while a cell is grey.
     fn exchange(&mut self) -> Result<(), HeapFault>

@@ -1,7 +1,8 @@
 //! A heap with a count of its grey cells on top.
 ghost use mathlib.Core.Path.{_≡_};
 ghost use lib.Dec.{eqb};
-ghost use Rattle.cells.specs.Calls.{exchangeAnswer, exchangeCells};
+ghost use Rattle.std.specs.declared.option.Option.the-variants.{None};
+ghost use Rattle.cells.specs.Calls.{exchangeAnswer, exchangeCells, firstGrey};
 ghost use Rattle.cells.specs.Count.{greyCount};
 use crate::count::count_after;
 use crate::count::count_grey;
@@ -83,8 +84,11 @@ pub impl<H: Heap> Heap for GreyTally<H> as GreyTallyHeap {
         painted
     }
 
-    // While the count is 0 the heap below is not asked.
-    fn first_grey(&self, from: u32) -> Option<u32> {
+    // While the count is 0 the heap below is not asked: the answer is none, whatever that heap is.
+    fn first_grey(&self, from: u32) -> Option<u32>
+        ensures found { λ r. ⌜ (sound (now (self .entry) .below) × (now (self .entry) .count ≡ greyCount (meaning (now (self .entry) .below))) → r ≡ firstGrey (meaning (now (self .entry) .below)) from) ⌝ }
+        ensures unasked { λ r. ⌜ (now (self .entry) .count ≡ 0 → r ≡ None) ⌝ }
+    {
         if self.is_zero() {
             return None;
         }
