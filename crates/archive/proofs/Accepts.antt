@@ -2,20 +2,16 @@
 use mathlib.Core.Path.{_≡_, refl, sym, _∙_, ap, subst}
 use mathlib.Core.Bool.{Bool, true, false, cond, _&&_}
 use mathlib.Core.List.{List, [], _∷_, _++_, append-assoc, append-nil}
-use Prim.Native.Nat.{ℕ, _+_, _<_, _≤_, _^_, max}
+use Prim.Native.Nat.{ℕ, _+_, _<_, _≤_}
 use native.Mathlib.Omega.{arith}
-use borrow.Author.Tests.{eqb-true, eqb-false, eq-eqb, leb-true, le-leb, ltb-true, lt-ltb}
+use borrow.Author.Tests.{eqb-true, eq-eqb, leb-true, le-leb, ltb-true, lt-ltb}
 use lib.Chars.{codes}
 use lib.Dec.{eqb, leb}
 use lib.ListN.{length}
 use Rattle.std.specs.Written.{decimal}
-use Rattle.std.proofs.shelf.Decimals.{decimal-digit}
-use Rattle.std.proofs.shelf.Elements.{all-append}
 use Rattle.std.proofs.shelf.Ways.{tells}
-use Rattle.std.specs.declared.option.Option.{Option}
 use Rattle.std.specs.declared.option.Option.the-variants.{Some, None}
-use Rattle.std.specs.declared.result.Result.{Result}
-use Rattle.std.specs.declared.result.Result.the-variants.{Ok, Err}
+use Rattle.std.specs.declared.result.Result.the-variants.{Ok}
 use Rattle.text.specs.Cut.{Lacks, cutAt}
 use Rattle.text.specs.Number.{numberIn}
 use Rattle.text.proofs.Cuts.{cut-holds, cut-found}
@@ -25,7 +21,6 @@ use Rattle.cells.specs.declared.content.Content.the-variants.{Nothing, Yarn, Ce
 use Rattle.cells.specs.Calls.{InRange}
 use Rattle.lines.specs.declared.cell.PatternCell.{PatternCell}
 use Rattle.lines.specs.declared.fault.LineFault.the-variants.{Form, Range}
-use Rattle.archive.specs.declared.fault.FileFault.{FileFault}
 use Rattle.archive.specs.declared.fault.FileFault.the-variants.{OfLine, Version, Numbering, NoLine, Trailing}
 use Rattle.lines.specs.Line.{Fields, header, Tabless, body, lineIn}
 use Rattle.lines.specs.Text.{cellFields, endFields, headerFields, lineText}
@@ -35,7 +30,7 @@ use Rattle.lines.proofs.Forms.{line-holds, line-back}
 use Rattle.lines.proofs.Options.{given-some, none-not-some}
 use Rattle.lines.proofs.Plain.{cell-ends, cell-plain, end-ends, end-plain, header-ends, header-plain, version-is}
 use Rattle.archive.proofs.Outcomes.{andThen-ok, step-ok, step-back, unless-ok, unless-back, ok-same}
-use Rattle.lines.proofs.Values.{CellIs, Short, cell-values, cell-values-back, content-lacks, decimal-lacks, empty, end-count, header-numbers, joint-lacks}
+use Rattle.lines.proofs.Values.{Short, cell-values, cell-values-back, empty, end-count, header-numbers}
 
 -- Lines.
 
@@ -76,7 +71,7 @@ header-read text p e =
     let range = unless-ok (countFits n) (OfLine (Range 1)) (Ok start) p (version .1) in
     let good = range .0 in
     let same = ok-same (range .1) in
-    let fields = header-numbers (line .0 .0) v n (numbers .1) .0 in
+    let fields = header-numbers (line .0 .0) v n (numbers .1) in
     let read : HeaderRead text start = record {
       text-is = line-read 1 text (line .0 .0) rest (line .1) ∙ ap (λ f. lineText f ++ rest) (fields ∙ ap (λ k. header (decimal k) (decimal n)) (eqb-true v 1 (version .0)) ∙ ap (λ t. header t (decimal n)) version-is);
       some = grind (arith, tells);
@@ -167,7 +162,7 @@ cell-read p c q e =
     let after : Place = record { count = p .count; next = p .next + 1; greatest = goes .0; rest = rest } in
     let same : (d, after) ≡ (c, q) = ok-same (goes .2) in
     let read : CellRead p d after = record {
-      text-is = line-read at (p .rest) f rest (line .1) ∙ ap (λ t. lineText t ++ rest) (cell-values f d (value .1) .fields);
+      text-is = line-read at (p .rest) f rest (line .1) ∙ ap (λ t. lineText t ++ rest) (cell-values f d (value .1));
       count-is = refl;
       next-is = refl;
       left-in = fits-range (p .count) (d .left) (both .0);

@@ -1,22 +1,20 @@
 -- A text is read as a pattern exactly if it is that pattern's written text and the pattern is numbered by the rule.
 use mathlib.Core.Path.{_≡_, refl, sym, _∙_, ap, subst}
-use mathlib.Core.Bool.{Bool, true, false}
 use mathlib.Core.List.{List, [], _∷_, _++_, append-assoc}
 use mathlib.Core.Logic.{_↔_}
-use Prim.Native.Nat.{ℕ, zero, suc, _+_, _-_, _<_, _≤_, max}
+use Prim.Native.Nat.{ℕ, zero, suc, _+_, _-_, _≤_, max}
 use native.Mathlib.Nat.{sub-zero}
 use native.Mathlib.Omega.{arith}
 use lib.ListN.{length}
 use Rattle.std.specs.shelf.Lists.{All}
-use Rattle.std.specs.declared.option.Option.the-variants.{Some}
 use Rattle.std.specs.declared.result.Result.{Result}
 use Rattle.std.specs.declared.result.Result.the-variants.{Ok, Err}
 use Rattle.cells.specs.Calls.{InRange}
 use Rattle.lines.specs.declared.cell.PatternCell.{PatternCell}
 use Rattle.archive.specs.declared.fault.FileFault.{FileFault}
 use Rattle.lines.specs.Text.{cellFields, endFields, headerFields, lineText}
-use Rattle.archive.specs.Pattern.{Numbered, OnePattern, Pattern, Writes, WritesSome, cellsText, contents, greatest, named}
-use Rattle.archive.specs.Reading.{Place, andThen, behindCells, cellDue, cellsAndEnd, cellsFrom, due, ending, finished, goesOn, inFront, judged, opened, patternIn}
+use Rattle.archive.specs.Pattern.{OnePattern, Pattern, Writes, WritesSome, cellsText, contents, greatest, named}
+use Rattle.archive.specs.Reading.{Place, andThen, behindCells, cellDue, cellsAndEnd, cellsFrom, due, ending, finished, inFront, judged, opened, patternIn}
 use Rattle.archive.proofs.Accepts.{CellRead, GoesOn, HeaderRead, cell-read, cell-written, end-read, end-written, header-read, header-written}
 use Rattle.archive.proofs.Numbering.{Follows, Met, behind-content, behindCell, content-follows, each-follows, follows-content, follows-each, greatest-append, met-named, named-append, named-met}
 use Rattle.archive.proofs.Outcomes.{andThen-ok, ok-same}

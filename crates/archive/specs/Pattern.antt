@@ -1,6 +1,6 @@
 -- A pattern, its written text, and the rule that its numbering obeys.
 use mathlib.Core.Path.{_≡_}
-use mathlib.Core.Bool.{Bool, true, false, cond, _||_}
+use mathlib.Core.Bool.{Bool, true, false, _||_}
 use mathlib.Core.List.{List, [], _∷_, _++_}
 use Prim.Native.Nat.{ℕ, _+_, _<_, _≤_, max}
 use lib.Dec.{eqb}

@@ -1,6 +1,6 @@
 //! A reader with a place in a text, which judges each line as it comes to it.
 ghost use mathlib.Core.Path.{_≡_};
-ghost use Prim.Native.Nat.{ℕ, _+_, _<_};
+ghost use Prim.Native.Nat.{_+_, _<_};
 ghost use Rattle.archive.specs.Reading.{cellDue, contentFits, countFits, finished, goesOn, lineAt, lineDue, lineGoesOn, nextCell, opened, placeAfter, placeOf};
 ghost use Rattle.archive.specs.Answers.{cellAnswer, lineAnswer, openAnswer};
 use crate::fault::FileFault;

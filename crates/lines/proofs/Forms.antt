@@ -1,7 +1,7 @@
 -- A line is read exactly if it is the text of its fields.
 use mathlib.Core.Path.{_≡_, refl, sym, _∙_, ap, subst}
 use mathlib.Core.Bool.{Bool, true, false, cond}
-use mathlib.Core.List.{List, [], _∷_, _++_}
+use mathlib.Core.List.{List}
 use mathlib.Core.Logic.{_↔_}
 use Prim.Native.Nat.{ℕ}
 use native.Mathlib.Omega.{arith}
@@ -11,9 +11,9 @@ use Rattle.std.specs.shelf.Text.{sameBytes}
 use Rattle.std.proofs.shelf.Equals.{sameBytes-decides}
 use Rattle.std.specs.declared.option.Option.{Option}
 use Rattle.std.specs.declared.option.Option.the-variants.{Some, None}
-use Rattle.text.specs.Cut.{Cuts, Lacks, cutAt}
+use Rattle.text.specs.Cut.{Lacks, cutAt}
 use Rattle.text.proofs.Cuts.{cut-holds, cut-found, cut-missing, missing-lacks}
-use Rattle.lines.specs.Line.{Fields, header, cell, end, IsLine, Tabless, afterJoint, afterWord, asHeader, body, cellIn, endIn, exactlyTwo, headerIn, lastOf, lineIn, tabbed, twoIn, withJoint}
+use Rattle.lines.specs.Line.{Fields, header, cell, end, IsLine, Tabless, afterJoint, afterWord, asHeader, body, cellIn, endIn, exactlyTwo, headerIn, lineIn, tabbed, twoIn, withJoint}
 use Rattle.lines.proofs.Options.{some-same, none-not-some}
 
 -- just one field

@@ -1,8 +1,8 @@
 -- A field is read as a value exactly if it is the text of that value.
-use mathlib.Core.Path.{_≡_, refl, sym, _∙_, ap, subst}
-use mathlib.Core.Bool.{Bool, true, false, cond, _&&_}
-use mathlib.Core.List.{List, [], _∷_, _++_}
-use Prim.Native.Nat.{ℕ, _<_, _≤_, _^_}
+use mathlib.Core.Path.{_≡_, refl, sym, _∙_, ap}
+use mathlib.Core.Bool.{Bool, true, false, cond}
+use mathlib.Core.List.{List, [], _∷_}
+use Prim.Native.Nat.{ℕ, _<_, _^_}
 use native.Mathlib.Omega.{arith}
 use borrow.Author.Tests.{eqb-true, leb-true}
 use lib.Chars.{codes}
@@ -11,7 +11,6 @@ use lib.ListN.{length}
 use Rattle.std.specs.Written.{decimal}
 use Rattle.std.specs.shelf.Text.{allDigits, sameBytes}
 use Rattle.std.proofs.shelf.Equals.{sameBytes-decides}
-use Rattle.std.proofs.shelf.Elements.{all-append}
 use Rattle.std.proofs.shelf.Ways.{tells}
 use Rattle.std.specs.declared.option.Option.{Option}
 use Rattle.std.specs.declared.option.Option.the-variants.{Some, None}
@@ -23,9 +22,9 @@ use Rattle.cells.specs.declared.content.Content.the-variants.{Nothing, Yarn, Ce
 use Rattle.cells.specs.declared.content.Joint.{Joint}
 use Rattle.cells.specs.declared.content.Joint.the-variants.{Beside, Above}
 use Rattle.lines.specs.declared.cell.PatternCell.{PatternCell}
-use Rattle.lines.specs.Line.{Fields, header, cell, end, Tabless, body}
-use Rattle.lines.specs.Text.{cellFields, contentText, endFields, headerFields, jointText}
-use Rattle.lines.specs.Values.{byLetter, cellValues, contentIn, endCount, given, headerNumbers, jointIn, lettered}
+use Rattle.lines.specs.Line.{Fields, header, cell, end}
+use Rattle.lines.specs.Text.{cellFields, contentText, endFields, jointText}
+use Rattle.lines.specs.Values.{cellValues, contentIn, endCount, given, headerNumbers, jointIn, lettered}
 use Rattle.lines.proofs.Options.{given-some, some-same, none-not-some}
 
 -- joints
@@ -57,29 +56,22 @@ empty (x ∷ xs) e = absurd (omega (arith, eqb-true (length (x ∷ xs)) 0 e))
 module _ (letter : ℕ) (digits : List ℕ) (c : Content) where
   -- what is to show of a letter and its digits
   abbrev Content-is : Type 0
-  Content-is = (letter ∷ digits ≡ contentText c) × Short c
+  Content-is = letter ∷ digits ≡ contentText c
 
-  numbered : (b : ℕ) (make : ℕ → Content) → ((n : ℕ) → contentText (make n) ≡ b ∷ decimal n) → ((n : ℕ) → n < 100000 → Short (make n)) → (n : ℕ) → numberIn digits ≡ Some n → eqb letter b ≡ true → make n ≡ c → Content-is
-  numbered b make text short n q r e =
-      let read = number-read digits n q in (
-        ap (λ l. l ∷ digits) (eqb-true letter b r) ∙ ap (λ ds. b ∷ ds) (read .1) ∙ sym (text n) ∙ ap contentText e,
-        subst Short e (short n (read .0)),
-      )
+  numbered : (b : ℕ) (make : ℕ → Content) → ((n : ℕ) → contentText (make n) ≡ b ∷ decimal n) → (n : ℕ) → numberIn digits ≡ Some n → eqb letter b ≡ true → make n ≡ c → Content-is
+  numbered b make text n q r e =
+      ap (λ l. l ∷ digits) (eqb-true letter b r) ∙ ap (λ ds. b ∷ ds) (number-read digits n q .1) ∙ sym (text n) ∙ ap contentText e
 
   after-dash : (t : Bool) → eqb (length digits) 0 ≡ t → eqb letter 45 ≡ true → cond t (Some Nothing) None ≡ Some c → Content-is
-  after-dash true q r e =
-      let same = some-same e in (
-        ap (λ l. l ∷ digits) (eqb-true letter 45 r) ∙ ap (λ ds. 45 ∷ ds) (empty digits q) ∙ ap contentText same,
-        subst Short same tt,
-      )
+  after-dash true q r e = ap (λ l. l ∷ digits) (eqb-true letter 45 r) ∙ ap (λ ds. 45 ∷ ds) (empty digits q) ∙ ap contentText (some-same e)
   after-dash false q r e = absurd (none-not-some e)
 
   is-cell : (n : ℕ) → numberIn digits ≡ Some n → (t : Bool) → eqb letter 99 ≡ t → cond t (Some (Cell n)) None ≡ Some c → Content-is
-  is-cell n q true r e = numbered 99 Cell (λ _. refl) (λ _ h. h) n q r (some-same e)
+  is-cell n q true r e = numbered 99 Cell (λ _. refl) n q r (some-same e)
   is-cell n q false r e = absurd (none-not-some e)
 
   is-yarn : (n : ℕ) → numberIn digits ≡ Some n → (t : Bool) → eqb letter 121 ≡ t → cond t (Some (Yarn n)) (cond (eqb letter 99) (Some (Cell n)) None) ≡ Some c → Content-is
-  is-yarn n q true r e = numbered 121 Yarn (λ _. refl) (λ _ h. h) n q r (some-same e)
+  is-yarn n q true r e = numbered 121 Yarn (λ _. refl) n q r (some-same e)
   is-yarn n q false r e = is-cell n q (eqb letter 99) refl e
 
   is-number : (o : Option ℕ) → numberIn digits ≡ o → lettered letter o ≡ Some c → Content-is
@@ -90,7 +82,7 @@ module _ (letter : ℕ) (digits : List ℕ) (c : Content) where
   is-dash true q e = after-dash (eqb (length digits) 0) refl q e
   is-dash false q e = is-number (numberIn digits) refl e
 
-pub content-holds : (text : List ℕ) (c : Content) → contentIn text ≡ Some c → (text ≡ contentText c) × Short c
+content-holds : (text : List ℕ) (c : Content) → contentIn text ≡ Some c → text ≡ contentText c
 content-holds [] c e = absurd (none-not-some e)
 content-holds (letter ∷ digits) c e = is-dash letter digits c (eqb letter 45) refl e
 
@@ -100,23 +92,16 @@ content-back (Yarn y) h = ap (lettered 121) (number-written y h)
 content-back (Cell k) h = ap (lettered 99) (number-written k h)
 
 -- the values of the three lines
-pub header-numbers : (f : Fields) (v n : ℕ) → headerNumbers f ≡ Some (v, n) → (f ≡ header (decimal v) (decimal n)) × (n < 100000)
+pub header-numbers : (f : Fields) (v n : ℕ) → headerNumbers f ≡ Some (v, n) → f ≡ header (decimal v) (decimal n)
 header-numbers (cell joint left right) v n e = absurd (none-not-some e)
 header-numbers (end count) v n e = absurd (none-not-some e)
 header-numbers (header version count) v n e =
     let first = given-some (numberIn version) (λ v. given (numberIn count) (λ n. Some (v, n))) (v, n) e in
     let second = given-some (numberIn count) (λ n. Some (first .0, n)) (v, n) (first .2) in
     let same = some-same (second .2) in
-    let a = number-read version (first .0) (first .1) in
-    let b = number-read count (second .0) (second .1) in (
-      ap (λ t. header t count) (a .1 ∙ ap (λ p. decimal (p .0)) same) ∙ ap (header (decimal v)) (b .1 ∙ ap (λ p. decimal (p .1)) same),
-      subst (λ p. p .1 < 100000) same (b .0),
-    )
-
-pub record CellIs (f : Fields) (c : PatternCell) : Type 0 where
-  pub fields : f ≡ cellFields c
-  pub left-short : Short (c .left)
-  pub right-short : Short (c .right)
+    let a = number-read version (first .0) (first .1) .1 in
+    let b = number-read count (second .0) (second .1) .1 in
+    ap (λ t. header t count) (a ∙ ap (λ p. decimal (p .0)) same) ∙ ap (header (decimal v)) (b ∙ ap (λ p. decimal (p .1)) same)
 
 abbrev with-joint : List ℕ → List ℕ → Joint → Option PatternCell
 with-joint left right j = given (contentIn left) (λ l. given (contentIn right) (λ r. Some (record { joint = j; left = l; right = r })))
@@ -124,25 +109,17 @@ with-joint left right j = given (contentIn left) (λ l. given (contentIn right) 
 abbrev with-left : List ℕ → Joint → Content → Option PatternCell
 with-left right j l = given (contentIn right) (λ r. Some (record { joint = j; left = l; right = r }))
 
-pub cell-values : (f : Fields) (c : PatternCell) → cellValues f ≡ Some c → CellIs f c
+pub cell-values : (f : Fields) (c : PatternCell) → cellValues f ≡ Some c → f ≡ cellFields c
 cell-values (header version count) c e = absurd (none-not-some e)
 cell-values (end count) c e = absurd (none-not-some e)
 cell-values (cell joint left right) c e =
     let j = given-some (jointIn joint) (with-joint left right) c e in
     let l = given-some (contentIn left) (with-left right (j .0)) c (j .2) in
     let r = given-some (contentIn right) (λ r. Some (record { joint = j .0; left = l .0; right = r })) c (l .2) in
-    let left-is = content-holds left (l .0) (l .1) in
-    let right-is = content-holds right (r .0) (r .1) in
-    let made : PatternCell = record { joint = j .0; left = l .0; right = r .0 } in
-    let is : CellIs (cell joint left right) made = record {
-      fields =
-          ap (λ t. cell t left right) (joint-holds joint (j .0) (j .1))
-          ∙ ap (λ t. cell (jointText (j .0)) t right) (left-is .0)
-          ∙ ap (λ t. cell (jointText (j .0)) (contentText (l .0)) t) (right-is .0);
-      left-short = left-is .1;
-      right-short = right-is .1;
-    } in
-    subst (CellIs (cell joint left right)) (some-same (r .2)) is
+    ap (λ t. cell t left right) (joint-holds joint (j .0) (j .1))
+    ∙ ap (λ t. cell (jointText (j .0)) t right) (content-holds left (l .0) (l .1))
+    ∙ ap (λ t. cell (jointText (j .0)) (contentText (l .0)) t) (content-holds right (r .0) (r .1))
+    ∙ ap cellFields (some-same (r .2))
 
 pub cell-values-back : (c : PatternCell) → Short (c .left) → Short (c .right) → cellValues (cellFields c) ≡ Some c
 cell-values-back c l r =

@@ -1,7 +1,7 @@
 -- A line as its fields.
 use mathlib.Core.Path.{_≡_}
 use mathlib.Core.Bool.{cond}
-use mathlib.Core.List.{List, [], _∷_, _++_}
+use mathlib.Core.List.{List, _∷_, _++_}
 use Prim.Native.Nat.{ℕ}
 use lib.Chars.{codes}
 use Rattle.std.specs.Options.{isSome}

@@ -1,7 +1,5 @@
 //! The fields of a line as values.
 ghost use mathlib.Core.Path.{_≡_};
-ghost use Prim.Native.Nat.{ℕ};
-ghost use lib.ListN.{length};
 ghost use Rattle.lines.specs.Line.{fieldsOf};
 ghost use Rattle.lines.specs.Values.{byLetter, cellValues, contentIn, endCount, headerNumbers, jointIn};
 use crate::line::Line;

@@ -1,6 +1,6 @@
 //! The lines of an archive text, written into a lent buffer at a place: a whole line where it fits, else nothing.
 ghost use mathlib.Core.Path.{_≡_};
-ghost use Prim.Native.Nat.{ℕ, _+_, _≤_};
+ghost use Prim.Native.Nat.{_+_, _≤_};
 ghost use lib.ListN.{length};
 ghost use Rattle.std.specs.Written.{decimal};
 ghost use Rattle.text.specs.Buffer.{lengthPut, put, written};

@@ -1,11 +1,11 @@
 -- The counts that are kept while a text is read are those of its pattern.
-use mathlib.Core.Path.{_≡_, refl, sym, _∙_, ap, subst}
-use mathlib.Core.Bool.{Bool, true, false, cond, _||_}
-use mathlib.Core.List.{List, [], _∷_, _++_}
+use mathlib.Core.Path.{_≡_, refl, _∙_, ap}
+use mathlib.Core.Bool.{Bool, true, false, cond}
+use mathlib.Core.List.{List, [], _∷_}
 use Prim.Native.Nat.{ℕ, _+_, _≤_, _<_, max}
 use native.Mathlib.Omega.{arith}
 use borrow.Author.Tests.{leb-true, leb-false}
-use lib.Dec.{eqb, leb}
+use lib.Dec.{leb}
 use lib.ListN.{length}
 use Rattle.std.specs.shelf.Lists.{countBy}
 use Rattle.std.proofs.shelf.Sums.{sumBy-cons}
@@ -22,7 +22,6 @@ use Rattle.archive.specs.Pattern.{Pattern, Writes, among, contents, named}
 use Rattle.archive.specs.Reading.{Place, andThen, cellsAndEnd, cellsFrom, due, ending, finished, opened, patternIn}
 use Rattle.archive.proofs.Numbering.{Follows, follows-each}
 use Rattle.archive.proofs.Whole.{count-is, pattern-read, pattern-written}
-use Rattle.report.specs.declared.tally.Summary.{Summary}
 use Rattle.report.specs.declared.tally.Tally.{Tally}
 use Rattle.report.specs.Summary.{isAbove, isNothing, isYarn, metAgain, summaryOf, surveyed, ties}
 use Rattle.report.specs.Survey.{asSummary, talliedEnd, tallyFrom}

@@ -1,5 +1,4 @@
 -- What is in a pattern, and the lines that tell it.
-use mathlib.Core.Path.{_≡_}
 use mathlib.Core.Bool.{Bool, true, false, cond}
 use mathlib.Core.List.{List, [], _∷_, _++_}
 use Prim.Native.Nat.{ℕ, _+_}
@@ -11,12 +10,11 @@ use Rattle.std.specs.declared.result.Result.{Result}
 use Rattle.std.specs.declared.result.Result.the-variants.{Ok, Err}
 use Rattle.cells.specs.declared.content.Content.{Content}
 use Rattle.cells.specs.declared.content.Content.the-variants.{Nothing, Yarn, Cell}
-use Rattle.cells.specs.declared.content.Joint.{Joint}
 use Rattle.cells.specs.declared.content.Joint.the-variants.{Beside, Above}
 use Rattle.lines.specs.declared.cell.PatternCell.{PatternCell}
 use Rattle.archive.specs.declared.fault.FileFault.{FileFault}
 use Rattle.archive.specs.Fault.{fileLine, fileNumber}
-use Rattle.archive.specs.Pattern.{Pattern, Writes, among, contents, named}
+use Rattle.archive.specs.Pattern.{Pattern, among, contents, named}
 use Rattle.archive.specs.Reading.{andThen, patternIn}
 use Rattle.report.specs.declared.tally.Summary.{Summary}
 

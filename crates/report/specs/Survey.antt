@@ -1,11 +1,9 @@
 -- A text is read and its cells are counted on the way.
-use mathlib.Core.List.{List}
 use Prim.Native.Nat.{ℕ}
 use Rattle.std.specs.declared.result.Result.{Result}
 use Rattle.std.specs.declared.result.Result.the-variants.{Ok, Err}
 use Rattle.archive.specs.declared.fault.FileFault.{FileFault}
 use Rattle.archive.specs.declared.reader.Reader.{Reader}
-use Rattle.archive.specs.Pattern.{Pattern}
 use Rattle.archive.specs.Reading.{Place, andThen, cellsFrom, due, finished, placeOf}
 use Rattle.report.specs.declared.tally.Summary.{Summary}
 use Rattle.report.specs.declared.tally.Tally.{Tally}

@@ -1,6 +1,6 @@
 -- The counts of a pattern as they are kept while its cells are read.
 use mathlib.Core.Bool.{cond}
-use mathlib.Core.List.{List, [], _∷_}
+use mathlib.Core.List.{[], _∷_}
 use Prim.Native.Nat.{ℕ, _+_, _≤_}
 use lib.Dec.{leb}
 use Rattle.cells.specs.declared.content.Content.{Content}

@@ -1,10 +1,9 @@
-use mathlib.Core.Path.{_≡_, sym, _∙_, ap}
-use mathlib.Core.List.{List, _∷_, [], _++_}
-use Prim.Native.Nat.{ℕ, _+_, _≤_}
+use mathlib.Core.Path.{_∙_, ap}
+use mathlib.Core.List.{_∷_, []}
+use Prim.Native.Nat.{_+_}
 use native.Mathlib.Omega.{arith}
-use lib.ListN.{length, length-append}
+use lib.ListN.{length}
 use Rattle.text.specs.Buffer.{written}
-use Rattle.text.proofs.Writes.{written-also}
 use Rattle.lines.specs.Text.{contentText, opening}
 use Rattle.lines.proofs.Lengths.{cell-length, cell-pieces, five-written, opening-length}
 use Rattle.lines.proofs.write.put_cell.Needs as need

@@ -1,4 +1,4 @@
-use mathlib.Core.Path.{_≡_, sym}
+use mathlib.Core.Path.{sym}
 use native.Mathlib.Omega.{arith}
 use Rattle.text.proofs.Digits.{length-one, length-front, length-few}
 use Rattle.text.proofs.number.+number_length.Needs as need
