@@ -11,7 +11,6 @@ pub use lines::Layer;
 pub use lines::LayerDebug;
 pub use lines::LayerPartialEq;
 pub use lines::Line;
-pub use lines::LineDebug;
 pub use lines::LineFault;
 pub use lines::LineFaultDebug;
 pub use lines::LineFaultPartialEq;

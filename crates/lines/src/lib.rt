@@ -14,7 +14,6 @@ pub use fault::LineFault;
 pub use fault::LineFaultDebug;
 pub use fault::LineFaultPartialEq;
 pub use line::Line;
-pub use line::LineDebug;
 pub use write::write_cell;
 pub use write::write_end;
 pub use write::write_header;

@@ -10,7 +10,7 @@ use text::cut_at;
 const TAB: u8 = 9;
 
 // A line that is read. Its fields are lent from the text and may be kept as long as the text.
-#[derive(Clone, Copy, Debug)]
+#[derive(Clone, Copy)]
 pub enum Line<'a> {
     Header {
         version: &'a [u8],
