@@ -5,4 +5,5 @@ mod lending;
 #[cfg(test)]
 mod tests;
 
+pub use lending::lend_planes;
 pub use lending::lend_records;
