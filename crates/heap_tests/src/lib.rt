@@ -1,5 +1,9 @@
-//! Tests of the heaps, alone and in layers.
+//! Tests of the heaps, alone and in layers, and callers that know their memory again once a heap is gone.
 #[cfg(test)]
 mod calls;
+mod lending;
 #[cfg(test)]
 mod tests;
+
+pub use lending::lend_planes;
+pub use lending::lend_records;

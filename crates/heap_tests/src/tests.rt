@@ -56,6 +56,7 @@ fn all_calls<H: Heap>(heap: &mut H, size: u32) -> Result<(), Fail> {
     greys_last(heap, size - 1, size)
 }
 
+// The records beyond the size are as they were.
 #[test]
 fn records_of_all_sizes(rt: LibcRuntime) -> Result<(), Fail> {
     for (length, size) in [
@@ -129,25 +130,21 @@ fn planes_keep_the_rest() -> Result<(), Fail> {
 }
 
 #[test]
-fn tallies_over_all(rt: LibcRuntime) -> Result<(), Fail> {
-    for (length, bytes, size) in [(0, 0, 0), (1, 1, 1), (9, 2, 9)] {
-        let mut memory = vec![in rt.alloc(); OLD; length]?;
-        let mut links = vec![in rt.alloc(); OLD_LINKS; length]?;
-        let mut grey = vec![in rt.alloc(); 0xff; bytes]?;
-        let mut mark = vec![in rt.alloc(); 0xff; bytes]?;
-        let mut sweep = vec![in rt.alloc(); 0xff; bytes]?;
-        let mut over_records = GreyTally::lay(RecordsHeap::new(memory.as_mut_slice()));
-        all_calls(&mut over_records, size)?;
-        let below = PlanesHeap::new(
-            links.as_mut_slice(),
-            grey.as_mut_slice(),
-            mark.as_mut_slice(),
-            sweep.as_mut_slice(),
-        );
-        let mut over_tally = GreyTally::lay(GreyTally::lay(below));
-        all_calls(&mut over_tally, size)?;
-    }
-    Ok(())
+fn tally_over_records() -> Result<(), Fail> {
+    let mut memory = [OLD; 9];
+    let mut tally = GreyTally::lay(RecordsHeap::new(&mut memory));
+    all_calls(&mut tally, 9)
+}
+
+#[test]
+fn tally_over_tally_over_planes() -> Result<(), Fail> {
+    let mut links = [OLD_LINKS; 9];
+    let mut grey = [0xff; 2];
+    let mut mark = [0xff; 2];
+    let mut sweep = [0xff; 2];
+    let below = GreyTally::lay(PlanesHeap::new(&mut links, &mut grey, &mut mark, &mut sweep));
+    let mut tally = GreyTally::lay(below);
+    all_calls(&mut tally, 9)
 }
 
 // A tally that is laid over a grey cell counts it.

@@ -166,11 +166,14 @@ all-same h = record {
 min-turned : (a b : ℕ) → min a b ≡ min b a
 min-turned a b = omega arith
 
+pub swapped-size : (h : PlanesHeap) → sizeOfPlanes (swappedPlanes h) ≡ sizeOfPlanes h
+swapped-size h =
+    ap (λ x. min (length (now (h .links))) (min (8 * length (now (h .grey))) (min x 16384))) (min-turned (8 * length (now (h .sweep))) (8 * length (now (h .mark))))
+
 module _ (h : PlanesHeap) (none : exchangeFault (cellsOfPlanes h) ≡ None) where
   pub swap-cells : cellsOfPlanes (swappedPlanes h) ≡ exchangeCells (cellsOfPlanes h)
   swap-cells =
-      ap (λ x. planesFront (min (length (now (h .links))) (min (8 * length (now (h .grey))) (min x 16384))) (now (h .links)) (now (h .grey)) (now (h .sweep)) (now (h .mark)))
-      (min-turned (8 * length (now (h .sweep))) (8 * length (now (h .mark))))
+      ap (λ x. planesFront x (now (h .links)) (now (h .grey)) (now (h .sweep)) (now (h .mark))) (swapped-size h)
       ∙ swap-front (now (h .links)) (now (h .grey)) (now (h .mark)) (now (h .sweep)) (sizeOfPlanes h) (none-found (firstGrey (cellsOfPlanes h) 0) none)
       ∙ ap (λ f. exchangeUnless f (cellsOfPlanes h)) (sym none)
 

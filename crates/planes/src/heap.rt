@@ -77,6 +77,27 @@ impl<'a> PlanesHeap<'a> {
         }
     }
 
+    // Gives the memory back as the heap left it: the records, the grey plane, and the two black planes in their
+    // present parts, mark before sweep.
+    pub fn release(
+        self,
+    ) -> (
+        &'a mut [LinkRecord],
+        &'a mut [u8],
+        &'a mut [u8],
+        &'a mut [u8],
+    )
+        ensures { λ r. ⌜ (r .0 ≡ self .entry .links) × (r .1 ≡ self .entry .grey) × (r .2 ≡ self .entry .mark) × (r .3 ≡ self .entry .sweep) ⌝ }
+    {
+        let PlanesHeap {
+            links,
+            grey,
+            mark,
+            sweep,
+        } = self;
+        (links, grey, mark, sweep)
+    }
+
     // How many cells there are.
     fn limit(&self) -> u32
         ensures size { λ r. ⌜ r ≡ sizeOfPlanes (now (self .entry)) ⌝ }

@@ -1,16 +1,16 @@
 -- The records beyond the size stay.
-use mathlib.Core.Path.{_≡_, refl, ap, _∙_}
+use mathlib.Core.Path.{_≡_, refl, sym, ap, _∙_}
 use mathlib.Core.List.{List, _++_, map}
 use Prim.Native.Nat.{ℕ, _<_}
 use lib.ListN.{drop, length, set, take}
-use denote.Ref.{at-last, now}
+use denote.Ref.{RefT, at-last, now}
 use Rattle.std.proofs.shelf.Lists.{length-set}
 use Rattle.cells.specs.declared.cell.CellRecord.{CellRecord}
 use Rattle.cells.specs.Front.{sizeFor}
-use Rattle.cells.specs.Record.{exchangedCell}
-use Rattle.cells.proofs.Memory.{exchange-beyond, exchange-length, set-beyond, size-in}
+use Rattle.cells.specs.Record.{exchangedCell, newCell}
+use Rattle.cells.proofs.Memory.{exchange-beyond, exchange-length, fill-beyond, fill-length, set-beyond, size-in}
 use Rattle.records.specs.declared.heap.RecordsHeap.{RecordsHeap}
-use Rattle.records.specs.Records.{SameBeyond}
+use Rattle.records.specs.Records.{MadeIn, SameBeyond}
 
 -- the heap with other records in the same memory
 abbrev pub holding : RecordsHeap → List CellRecord → RecordsHeap
@@ -31,3 +31,20 @@ exchange-keeps h ds e =
       beyond = ap (drop (sizeFor (length cs))) e ∙ exchange-beyond cs (sizeFor (length cs)) (size-in cs);
       lender = refl;
     }
+
+-- for callers: what one call after another leaves, and what making leaves
+pub same-on : (a b c : RecordsHeap) → SameBeyond a b → SameBeyond b c → SameBeyond a c
+same-on a b c p q = record {
+  long = q .long ∙ p .long;
+  beyond = ap (λ n. drop (sizeFor n) (now (c .cells))) (sym (p .long)) ∙ q .beyond ∙ ap (λ n. drop (sizeFor n) (now (b .cells))) (p .long) ∙ p .beyond;
+  lender = q .lender ∙ p .lender;
+}
+
+pub made-long : (memory : RefT (List CellRecord)) (h : RecordsHeap) → MadeIn memory h → length (now (h .cells)) ≡ length (now memory)
+made-long memory h m = ap length (m .records) ∙ fill-length newCell (now memory) (sizeFor (length (now memory))) (size-in (now memory))
+
+pub made-then : (memory : RefT (List CellRecord)) (h t : RecordsHeap) → MadeIn memory h → SameBeyond h t → drop (sizeFor (length (now memory))) (now (t .cells)) ≡ drop (sizeFor (length (now memory))) (now memory)
+made-then memory h t m p =
+    let n = sizeFor (length (now memory)) in
+    ap (λ k. drop (sizeFor k) (now (t .cells))) (sym (made-long memory h m)) ∙ p .beyond ∙ ap (λ k. drop (sizeFor k) (now (h .cells))) (made-long memory h m)
+    ∙ ap (drop n) (m .records) ∙ fill-beyond newCell (now memory) n

@@ -43,6 +43,14 @@ impl<'a> RecordsHeap<'a> {
         RecordsHeap { cells: memory }
     }
 
+    // Gives the memory back as the heap left it.
+    pub fn release(self) -> &'a mut [CellRecord]
+        ensures { λ r. ⌜ r ≡ self .entry .cells ⌝ }
+    {
+        let cells = self.cells;
+        cells
+    }
+
     // How many cells there are.
     fn limit(&self) -> u32
         ensures { λ r. ⌜ r ≡ sizeFor (length (now (now (self .entry) .cells))) ⌝ }

@@ -32,6 +32,14 @@ impl<H: Heap> GreyTally<H> {
         GreyTally { below, count }
     }
 
+    // Takes the tally off again: the heap below, as it is.
+    pub fn lift(self) -> H
+        ensures { λ r. ⌜ r ≡ self .below ⌝ }
+    {
+        let GreyTally { below, count: _ } = self;
+        below
+    }
+
     // Exchanges the colours of the heap below. The count stays: no cell was grey, and none becomes grey.
     fn exchange_below(&mut self) -> Result<(), HeapFault>
         ensures result { λ r. ⌜ (sound (now (self .entry) .below) → r ≡ exchangeAnswer (meaning (now (self .entry) .below))) ⌝ }
