@@ -18,7 +18,7 @@ use records::RecordsHeap;
 use records::RecordsHeapHeap;
 
 // The records beyond the size outlive a records heap unchanged.
-pub fn lend_records(memory: &mut [CellRecord])
+pub(crate) fn lend_records(memory: &mut [CellRecord])
     ensures { λ _. ⌜ drop (sizeFor (length (now (memory .entry)))) (now (memory .exit)) ≡ drop (sizeFor (length (now (memory .entry)))) (now (memory .entry)) ⌝ }
 {
     let mut heap = RecordsHeap::new(memory);
@@ -35,7 +35,7 @@ pub fn lend_records(memory: &mut [CellRecord])
 
 // The bits beyond the size come back unchanged from a planes heap. After the exchange, which a new heap never
 // refuses, the plane that was lent for marking comes back in the part of the sweep plane, and the other way round.
-pub fn lend_planes<'a>(
+pub(crate) fn lend_planes<'a>(
     links: &'a mut [LinkRecord],
     grey: &'a mut [u8],
     mark: &'a mut [u8],
