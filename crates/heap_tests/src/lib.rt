@@ -4,6 +4,3 @@ mod calls;
 mod lending;
 #[cfg(test)]
 mod tests;
-
-pub use lending::lend_planes;
-pub use lending::lend_records;
