@@ -51,7 +51,7 @@ fn exchanges<H: Heap>(heap: &mut H, due: Result<(), HeapFault>) -> Result<(), Fa
 }
 
 // The answers of a new heap, at its size and beyond it.
-pub fn is_new<H: Heap>(heap: &H, size: u32) -> Result<(), Fail> {
+pub(crate) fn is_new<H: Heap>(heap: &H, size: u32) -> Result<(), Fail> {
     check_eq(heap.size(), size)?;
     for index in 0..size {
         reads(heap, index, Ok(new_cell()))?;
@@ -64,7 +64,7 @@ pub fn is_new<H: Heap>(heap: &H, size: u32) -> Result<(), Fail> {
 }
 
 // A write is refused by its index, then by its left content, then by its right one.
-pub fn refuses_writes<H: Heap>(heap: &mut H, size: u32) -> Result<(), Fail> {
+pub(crate) fn refuses_writes<H: Heap>(heap: &mut H, size: u32) -> Result<(), Fail> {
     let yarn = Content::Yarn(4096);
     let cell = Content::Cell(size);
     let rows = [
@@ -82,7 +82,7 @@ pub fn refuses_writes<H: Heap>(heap: &mut H, size: u32) -> Result<(), Fail> {
 }
 
 // The last cell is greyed and found, and an exchange is refused while it is grey.
-pub fn greys_last<H: Heap>(heap: &mut H, last: u32, size: u32) -> Result<(), Fail> {
+pub(crate) fn greys_last<H: Heap>(heap: &mut H, last: u32, size: u32) -> Result<(), Fail> {
     let grey = Colour::Mark(MarkColour::Grey);
     paints(heap, last, grey, Ok(()))?;
     paints(heap, size, grey, Err(HeapFault::CellRange))?;
@@ -98,7 +98,7 @@ pub fn greys_last<H: Heap>(heap: &mut H, last: u32, size: u32) -> Result<(), Fai
 }
 
 // The last cell is written and blackened, and its colours change places.
-pub fn exchanges_last<H: Heap>(heap: &mut H, last: u32) -> Result<(), Fail> {
+pub(crate) fn exchanges_last<H: Heap>(heap: &mut H, last: u32) -> Result<(), Fail> {
     let cell = CellRecord {
         joint: Joint::Above,
         left: Content::Cell(last),
@@ -116,7 +116,7 @@ pub fn exchanges_last<H: Heap>(heap: &mut H, last: u32) -> Result<(), Fail> {
 }
 
 // An exchange of a heap of no cells is done.
-pub fn exchanges_none<H: Heap>(heap: &mut H) -> Result<(), Fail> {
+pub(crate) fn exchanges_none<H: Heap>(heap: &mut H) -> Result<(), Fail> {
     exchanges(heap, Ok(()))
 }
 
@@ -125,7 +125,7 @@ fn blackens<H: Heap>(heap: &mut H, index: u32, due: Result<(), HeapFault>) -> Re
 }
 
 // Shading greys a white cell and nothing else; blackening shades both contents first.
-pub fn shades<H: Heap>(heap: &mut H) -> Result<(), Fail> {
+pub(crate) fn shades<H: Heap>(heap: &mut H) -> Result<(), Fail> {
     writes(heap, 1, Content::Cell(0), Content::Cell(2), Ok(()))?;
     shade(heap, Content::Cell(1));
     finds(heap, 0, Some(1))?;
