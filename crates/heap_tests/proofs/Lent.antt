@@ -1,5 +1,5 @@
 -- The lent memory of a planes heap that was made, exchanged and painted.
-use Rattle.std.proofs.Common.{◌≡◌, ℕ, List, length, None, refl, ap, ◌∙◌, subst, Bor}
+use Rattle.std.proofs.Common.{◌≡◌, ℕ, List, length, None, refl, ap, ◌∙◌, subst, MutBor}
 use Rattle.cells.specs.Calls.{exchange_fault}
 use Rattle.cells.specs.Cells.{new_cells}
 use Rattle.cells.specs.Fault.{grey_fault, unless_fault}
@@ -18,7 +18,7 @@ bits_on n p q r a b = record { long = b.long ∙ a.long; beyond = λ j h. b.beyo
 new_none : (n : ℕ) → exchange_fault (new_cells n) ≡ None
 new_none n = ap grey_fault (first_none (new_cells n) 0 (λ j lo hi. refl))
 
-module _ (links : Bor (List LinkRecord)) (grey mark sweep : Bor (List ℕ)) (made turned painted : PlanesHeap) (m : MadeIn links grey mark sweep made)
+module _ (links : MutBor (List LinkRecord)) (grey mark sweep : MutBor (List ℕ)) (made turned painted : PlanesHeap) (m : MadeIn links grey mark sweep made)
     (fresh : cells_of_planes made ≡ new_cells (planes_size (length links.now) (length grey.now) (length mark.now) (length sweep.now)))
     (parts : turned ≡ unless_fault (exchange_fault (cells_of_planes made)) (swapped_planes made) made) (same : SameBeyond turned painted) where
   abbrev n : ℕ

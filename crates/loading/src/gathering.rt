@@ -16,7 +16,7 @@ fn cell_named(content: Content) -> u32
 
 // The cell behind a cell of the free list, which that one names on its left; 0 behind the last one.
 fn next_free<H: Heap>(heap: &H, cell: u32) -> u32
-    ensures { sound heap.now → cell < (meaning heap.now).size → result ≡ cell_named ((meaning heap.now).left cell) }
+    ensures { H.sound heap.now → cell < (H.meaning heap.now).size → result ≡ cell_named ((H.meaning heap.now).left cell) }
 {
     match heap.read(cell) {
         Ok(free) => cell_named(free.left),
@@ -38,7 +38,7 @@ fn tell(places: &mut [u16], k: u32, cell: u32)
 // Reads the first `count` cells of the free list, which begins at `front`, into the table; changes no cell. Answers the
 // cell behind them, where the list then begins.
 pub fn gather<H: Heap>(heap: &H, front: u32, count: u32, places: &mut [u16]) -> u32
-    ensures { (free : List ℕ) → sound heap.now → Listed (meaning heap.now) free front count places.old → Gathered free count places.old places.new result }
+    ensures { (free : List ℕ) → H.sound heap.now → Listed (H.meaning heap.now) free front count places.old → Gathered free count places.old places.new result }
 {
     let mut cell = front;
     for k in 0..count {

@@ -56,8 +56,8 @@ fn new_sweep(sweep_place: u32, cell: u32) -> SweepColour
 
 // Makes a cell a used one, black for the marker, with the joint and the contents of the line.
 fn plant<H: Heap>(heap: &mut H, cell: u32, line: PatternCell, sweep_place: u32)
-    ensures after { sound heap.old → meaning heap.new ≡ planted_cells (meaning heap.old) sweep_place cell line }
-    ensures kept { sound heap.old → sound heap.new }
+    ensures after { H.sound heap.old → H.meaning heap.new ≡ planted_cells (H.meaning heap.old) sweep_place cell line }
+    ensures kept { H.sound heap.old → H.sound heap.new }
 {
     let _ = heap.write(cell, line.joint, line.left, line.right, Tag::Used);
     let _ = heap.paint(cell, Colour::Mark(MarkColour::Black));
@@ -77,8 +77,8 @@ fn next_line<'a>(reader: &mut Reader<'a>) -> Option<PatternCell>
 
 // Makes the cells of the lines that the reader has still to give, in the places that the table names, first to first.
 fn settle_lines<'a, H: Heap>(heap: &mut H, mut reader: Reader<'a>, places: &[u16], sweep_place: u32)
-    ensures after { (pattern : Pattern) → sound heap.old → lines_left (place_of reader.entry) ≡ Ok pattern → All (InRange (length pattern)) (contents pattern) → Suits (meaning heap.old).size places.now pattern → meaning heap.new ≡ settled_cells (meaning heap.old) sweep_place (take (length pattern) places.now) pattern }
-    ensures kept { sound heap.old → sound heap.new }
+    ensures after { (pattern : Pattern) → H.sound heap.old → lines_left (place_of reader.entry) ≡ Ok pattern → All (InRange (length pattern)) (contents pattern) → Suits (H.meaning heap.old).size places.now pattern → H.meaning heap.new ≡ settled_cells (H.meaning heap.old) sweep_place (take (length pattern) places.now) pattern }
+    ensures kept { H.sound heap.old → H.sound heap.new }
 {
     for place in places {
         let Some(line) = next_line(&mut reader) else {
@@ -95,8 +95,8 @@ fn settle_lines<'a, H: Heap>(heap: &mut H, mut reader: Reader<'a>, places: &[u16
 
 // Makes the pattern of a text in the cells that the table names: file cell k becomes cell places[k].
 pub fn settle<H: Heap>(heap: &mut H, text: &[u8], places: &[u16], sweep_place: u32)
-    ensures after { (pattern : Pattern) → sound heap.old → pattern_in text.now ≡ Ok pattern → Suits (meaning heap.old).size places.now pattern → meaning heap.new ≡ settled_cells (meaning heap.old) sweep_place (take (length pattern) places.now) pattern }
-    ensures kept { sound heap.old → sound heap.new }
+    ensures after { (pattern : Pattern) → H.sound heap.old → pattern_in text.now ≡ Ok pattern → Suits (H.meaning heap.old).size places.now pattern → H.meaning heap.new ≡ settled_cells (H.meaning heap.old) sweep_place (take (length pattern) places.now) pattern }
+    ensures kept { H.sound heap.old → H.sound heap.new }
 {
     if let Ok(reader) = Reader::open(text) {
         settle_lines(heap, reader, places, sweep_place);

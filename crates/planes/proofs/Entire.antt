@@ -1,5 +1,5 @@
 -- A planes heap as a whole: what each call does to its cells, to its soundness and to the memory beyond.
-use Rattle.std.proofs.Common.{◌≡◌, ℕ, ◌*◌, ◌<◌, ◌≤◌, min, true, false, List, ◌++◌, length, drop, set, replicate, None, Option, sym, refl, ap, ◌∙◌, subst, inl, inr, arith, Bor}
+use Rattle.std.proofs.Common.{◌≡◌, ℕ, ◌*◌, ◌<◌, ◌≤◌, min, true, false, List, ◌++◌, length, drop, set, replicate, None, Option, sym, refl, ap, ◌∙◌, subst, inl, inr, arith, MutBor}
 use Rattle.std.proofs.lemmas.List.{length-set}
 use Rattle.std.proofs.lemmas.Bool.{cases_eq}
 use Rattle.cells.specs.declared.content.Content.{Content}
@@ -40,7 +40,7 @@ pub room_in : (h : PlanesHeap) (n : ℕ) → n ≡ size_of_planes h → Room n (
 room_in h n e room = subst (λ k. Room k (length h.links.now) (length h.grey.now) (length h.mark.now) (length h.sweep.now)) e room
 
 -- an untouched plane
-untouched : (n : ℕ) (a b : Bor (List ℕ)) → b ≡ a → SameBits n a.now b.now
+untouched : (n : ℕ) (a b : MutBor (List ℕ)) → b ≡ a → SameBits n a.now b.now
 untouched n a b e = record { long = ap (λ x. length x.now) e; beyond = λ j _. ap (λ x. bit_at x.now j) e }
 
 -- first grey
@@ -115,7 +115,7 @@ module _ (h t : PlanesHeap) (i : ℕ) (c : SweepColour) (p : SweepPainted i c h 
   }
 
 -- write: only the records change
-module _ (h : PlanesHeap) (links : Bor (List LinkRecord)) (i : ℕ) (j : Joint) (l r : Content) (u : Tag)
+module _ (h : PlanesHeap) (links : MutBor (List LinkRecord)) (i : ℕ) (j : Joint) (l r : Content) (u : Tag)
     (e : links.now ≡ set h.links.now i (record { joint = j; left = l; right = r; tag = u })) (ok : Accepted (write_fault (size_of_planes h) i l r)) (room : RoomIn h) where
   abbrev written : PlanesHeap
   written = record { links = links; grey = h.grey; mark = h.mark; sweep = h.sweep }
@@ -182,7 +182,7 @@ module _ (h : PlanesHeap) (none : exchange_fault (cells_of_planes h) ≡ None) w
   }
 
 -- making
-module _ (links : Bor (List LinkRecord)) (grey mark sweep : Bor (List ℕ)) (h : PlanesHeap) (made : MadeIn links grey mark sweep h)
+module _ (links : MutBor (List LinkRecord)) (grey mark sweep : MutBor (List ℕ)) (h : PlanesHeap) (made : MadeIn links grey mark sweep h)
     (room : Room (planes_size (length links.now) (length grey.now) (length mark.now) (length sweep.now)) (length links.now) (length grey.now) (length mark.now) (length sweep.now)) where
   abbrev size : ℕ
   size = planes_size (length links.now) (length grey.now) (length mark.now) (length sweep.now)

@@ -14,7 +14,7 @@ pub fn save_pattern<H: Heap>(
     numbers: &mut [u16],
     order: &mut [u16],
 ) -> (u32, Option<usize>)
-    ensures { sound heap.now → Savable (meaning heap.now) first numbers.old order.old → Saved (meaning heap.now) first buffer.old numbers.old order.old result buffer.new numbers.new order.new }
+    ensures { H.sound heap.now → Savable (H.meaning heap.now) first numbers.old order.old → Saved (H.meaning heap.now) first buffer.old numbers.old order.old result buffer.new numbers.new order.new }
 {
     let count = number_cells(heap, first, numbers, order);
     let length = write_text(heap, numbers, order, count, buffer);

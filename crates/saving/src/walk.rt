@@ -8,7 +8,7 @@ use cells::{CellRecord, Content, Heap, new_cell};
 
 // All of a cell; one that does not exist is as a new one.
 pub fn look<H: Heap>(heap: &H, cell: u16) -> CellRecord
-    ensures { sound heap.now → result ≡ cell_at (meaning heap.now) cell }
+    ensures { H.sound heap.now → result ≡ cell_at (H.meaning heap.now) cell }
 {
     match heap.read(cell as u32) {
         Ok(record) => record,
@@ -18,7 +18,7 @@ pub fn look<H: Heap>(heap: &H, cell: u16) -> CellRecord
 
 // Meets both contents of the cell with this number, left before right.
 fn visit<H: Heap>(heap: &H, numbers: &mut [u16], order: &mut [u16], count: u16, number: u16) -> u16
-    ensures { sound heap.now → tables result numbers.new order.new ≡ visited_in (meaning heap.now) (tables count numbers.old order.old) number }
+    ensures { H.sound heap.now → tables result numbers.new order.new ≡ visited_in (H.meaning heap.now) (tables count numbers.old order.old) number }
 {
     let cell = look(heap, entry(order, number));
     let met = meet(numbers, order, count, cell.left);
@@ -34,7 +34,7 @@ fn is_past(count: u16, number: u16) -> bool
 
 // Goes through the cells in the order of their numbers until there is no further one.
 fn walk<H: Heap>(heap: &H, numbers: &mut [u16], order: &mut [u16], met: u16) -> u16
-    ensures { sound heap.now → tables result numbers.new order.new ≡ walked_in (meaning heap.now) (tables met numbers.old order.old) (meaning heap.now).size }
+    ensures { H.sound heap.now → tables result numbers.new order.new ≡ walked_in (H.meaning heap.now) (tables met numbers.old order.old) (H.meaning heap.now).size }
 {
     let mut count = met;
     for number in 0..entry_for(heap.size()) {
@@ -48,7 +48,7 @@ fn walk<H: Heap>(heap: &H, numbers: &mut [u16], order: &mut [u16], met: u16) -> 
 
 // Numbers the cells of the pattern whose first cell is `first`, and answers how many they are.
 pub fn number_cells<H: Heap>(heap: &H, first: u32, numbers: &mut [u16], order: &mut [u16]) -> u16
-    ensures { sound heap.now → tables result numbers.new order.new ≡ numbered_in (meaning heap.now) first numbers.old order.old }
+    ensures { H.sound heap.now → tables result numbers.new order.new ≡ numbered_in (H.meaning heap.now) first numbers.old order.old }
 {
     clear(numbers, heap.size());
     let met = meet(numbers, order, 0, Content::Cell(first));

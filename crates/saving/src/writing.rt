@@ -25,7 +25,7 @@ fn in_file(content: Content, numbers: &[u16]) -> Content
 
 // The line of the cell with this number.
 fn line<H: Heap>(heap: &H, numbers: &[u16], order: &[u16], number: u16) -> PatternCell
-    ensures { sound heap.now → result ≡ line_in (meaning heap.now) numbers.now order.now number }
+    ensures { H.sound heap.now → result ≡ line_in (H.meaning heap.now) numbers.now order.now number }
 {
     let cell = look(heap, entry(order, number));
     PatternCell {
@@ -37,7 +37,7 @@ fn line<H: Heap>(heap: &H, numbers: &[u16], order: &[u16], number: u16) -> Patte
 
 // How many bytes the lines of `count` cells are written in.
 fn cells_length<H: Heap>(heap: &H, numbers: &[u16], order: &[u16], count: u16) -> usize
-    ensures bytes { sound heap.now → result ≡ length (cells_in (meaning heap.now) numbers.now order.now count) }
+    ensures bytes { H.sound heap.now → result ≡ length (cells_in (H.meaning heap.now) numbers.now order.now count) }
     ensures few { result ≤ 31 * count }
 {
     let mut length = 0;
@@ -49,7 +49,7 @@ fn cells_length<H: Heap>(heap: &H, numbers: &[u16], order: &[u16], count: u16) -
 
 // How many bytes the text of `count` cells is written in.
 fn text_length<H: Heap>(heap: &H, numbers: &[u16], order: &[u16], count: u16) -> usize
-    ensures { sound heap.now → result ≡ length (text_in (meaning heap.now) numbers.now order.now count) }
+    ensures { H.sound heap.now → result ≡ length (text_in (H.meaning heap.now) numbers.now order.now count) }
 {
     header_length(count as u32)
         + cells_length(heap, numbers, order, count)
@@ -86,7 +86,7 @@ fn put_cells<H: Heap>(
     buffer: &mut [u8],
     start: usize,
 ) -> usize
-    ensures { sound heap.now → Puts buffer.old start (cells_in (meaning heap.now) numbers.now order.now count) result buffer.new }
+    ensures { H.sound heap.now → Puts buffer.old start (cells_in (H.meaning heap.now) numbers.now order.now count) result buffer.new }
 {
     let mut at = start;
     for number in 0..count {
@@ -103,7 +103,7 @@ fn put_text<H: Heap>(
     count: u16,
     buffer: &mut [u8],
 ) -> usize
-    ensures { sound heap.now → Puts buffer.old 0 (text_in (meaning heap.now) numbers.now order.now count) result buffer.new }
+    ensures { H.sound heap.now → Puts buffer.old 0 (text_in (H.meaning heap.now) numbers.now order.now count) result buffer.new }
 {
     let start = put_header(buffer, count);
     let end = put_cells(heap, numbers, order, count, buffer, start);
@@ -118,8 +118,8 @@ pub fn write_text<H: Heap>(
     count: u16,
     buffer: &mut [u8],
 ) -> Option<usize>
-    ensures answer { sound heap.now → result ≡ length_put buffer.old 0 (text_in (meaning heap.now) numbers.now order.now count) }
-    ensures after { sound heap.now → buffer.new ≡ put buffer.old 0 (text_in (meaning heap.now) numbers.now order.now count) }
+    ensures answer { H.sound heap.now → result ≡ length_put buffer.old 0 (text_in (H.meaning heap.now) numbers.now order.now count) }
+    ensures after { H.sound heap.now → buffer.new ≡ put buffer.old 0 (text_in (H.meaning heap.now) numbers.now order.now count) }
 {
     let length = text_length(heap, numbers, order, count);
     if !has_room(buffer, 0, length) {

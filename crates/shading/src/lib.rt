@@ -17,8 +17,8 @@ fn is_white(mark: MarkColour) -> bool
 // Shades a content, that is, greys a white object: a white cell becomes grey, so that the marker will still
 // look at its contents. Anything else is left: nothing, a yarn, a grey or a black cell, a cell that does not exist.
 pub fn shade<H: Heap>(heap: &mut H, content: Content)
-    ensures after { sound heap.old → meaning heap.new ≡ shaded_cells (meaning heap.old) content }
-    ensures kept { sound heap.old → sound heap.new }
+    ensures after { H.sound heap.old → H.meaning heap.new ≡ shaded_cells (H.meaning heap.old) content }
+    ensures kept { H.sound heap.old → H.sound heap.new }
 {
     if let Content::Cell(index) = content {
         if let Ok(cell) = heap.read(index) {
@@ -31,9 +31,9 @@ pub fn shade<H: Heap>(heap: &mut H, content: Content)
 
 // Blackens a cell, that is, scans an object: its left content is shaded, then its right one, and then the cell is black.
 pub fn blacken<H: Heap>(heap: &mut H, index: u32) -> Result<(), HeapFault>
-    ensures result { sound heap.old → result ≡ paint_answer (meaning heap.old) index }
-    ensures after { sound heap.old → meaning heap.new ≡ blackened_cells (meaning heap.old) index }
-    ensures kept { sound heap.old → sound heap.new }
+    ensures result { H.sound heap.old → result ≡ paint_answer (H.meaning heap.old) index }
+    ensures after { H.sound heap.old → H.meaning heap.new ≡ blackened_cells (H.meaning heap.old) index }
+    ensures kept { H.sound heap.old → H.sound heap.new }
 {
     let cell = heap.read(index)?;
     shade(heap, cell.left);

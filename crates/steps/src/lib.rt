@@ -15,7 +15,7 @@ use cells::{
 
 // All of a cell that the heap has.
 pub fn look<H: Heap>(heap: &H, index: u32) -> CellRecord
-    ensures { sound heap.now → index < (meaning heap.now).size → result ≡ cell_at (meaning heap.now) index }
+    ensures { H.sound heap.now → index < (H.meaning heap.now).size → result ≡ cell_at (H.meaning heap.now) index }
 {
     match heap.read(index) {
         Ok(cell) => cell,
@@ -25,14 +25,14 @@ pub fn look<H: Heap>(heap: &H, index: u32) -> CellRecord
 
 // Shades a content.
 pub fn shade<H: Heap>(heap: &mut H, content: Content)
-    ensures { sound heap.old → InRange (meaning heap.old).size content → (meaning heap.new ≡ cells_shaded (meaning heap.old) content) × sound heap.new }
+    ensures { H.sound heap.old → InRange (H.meaning heap.old).size content → (H.meaning heap.new ≡ cells_shaded (H.meaning heap.old) content) × H.sound heap.new }
 {
     shading::shade(heap, content);
 }
 
 // The grey cell that a mark at cell `from` finds: the first from there on, or else the first of all.
 pub fn next_grey<H: Heap>(heap: &H, from: u32) -> Option<u32>
-    ensures { sound heap.now → result ≡ next_grey (meaning heap.now) from }
+    ensures { H.sound heap.now → result ≡ next_grey (H.meaning heap.now) from }
 {
     match heap.first_grey(from) {
         Some(index) => Some(index),
@@ -42,7 +42,7 @@ pub fn next_grey<H: Heap>(heap: &H, from: u32) -> Option<u32>
 
 // Shades the contents of a cell and paints it black.
 pub fn blacken<H: Heap>(heap: &mut H, index: u32)
-    ensures { sound heap.old → index < (meaning heap.old).size → InRange (meaning heap.old).size ((meaning heap.old).left index) → InRange (meaning heap.old).size ((meaning heap.old).right index) → (meaning heap.new ≡ cells_blackened (meaning heap.old) index) × sound heap.new }
+    ensures { H.sound heap.old → index < (H.meaning heap.old).size → InRange (H.meaning heap.old).size ((H.meaning heap.old).left index) → InRange (H.meaning heap.old).size ((H.meaning heap.old).right index) → (H.meaning heap.new ≡ cells_blackened (H.meaning heap.old) index) × H.sound heap.new }
 {
     let cell = look(heap, index);
     shade(heap, cell.left);
@@ -52,21 +52,21 @@ pub fn blacken<H: Heap>(heap: &mut H, index: u32)
 
 // The sweep colour of a cell becomes white.
 pub fn whiten<H: Heap>(heap: &mut H, index: u32)
-    ensures { sound heap.old → index < (meaning heap.old).size → (meaning heap.new ≡ whitened_cells (meaning heap.old) index) × sound heap.new }
+    ensures { H.sound heap.old → index < (H.meaning heap.old).size → (H.meaning heap.new ≡ whitened_cells (H.meaning heap.old) index) × H.sound heap.new }
 {
     let _ = heap.paint(index, Colour::Sweep(SweepColour::White));
 }
 
 // Writes a cell that the heap has, with contents that it can have: nothing is refused.
 fn lay<H: Heap>(heap: &mut H, index: u32, joint: Joint, left: Content, right: Content, tag: Tag)
-    ensures { sound heap.old → index < (meaning heap.old).size → InRange (meaning heap.old).size left → InRange (meaning heap.old).size right → (meaning heap.new ≡ write_unless None (meaning heap.old) index joint left right tag) × sound heap.new }
+    ensures { H.sound heap.old → index < (H.meaning heap.old).size → InRange (H.meaning heap.old).size left → InRange (H.meaning heap.old).size right → (H.meaning heap.new ≡ write_unless None (H.meaning heap.old) index joint left right tag) × H.sound heap.new }
 {
     let _ = heap.write(index, joint, left, right, tag);
 }
 
 // Another left for a cell.
 fn link<H: Heap>(heap: &mut H, index: u32, left: Content)
-    ensures { sound heap.old → index < (meaning heap.old).size → InRange (meaning heap.old).size left → InRange (meaning heap.old).size ((meaning heap.old).right index) → (meaning heap.new ≡ cells_linked (meaning heap.old) index left) × sound heap.new }
+    ensures { H.sound heap.old → index < (H.meaning heap.old).size → InRange (H.meaning heap.old).size left → InRange (H.meaning heap.old).size ((H.meaning heap.old).right index) → (H.meaning heap.new ≡ cells_linked (H.meaning heap.old) index left) × H.sound heap.new }
 {
     let cell = look(heap, index);
     lay(heap, index, cell.joint, left, cell.right, cell.tag);
@@ -74,7 +74,7 @@ fn link<H: Heap>(heap: &mut H, index: u32, left: Content)
 
 // Puts a cell back behind the last of `count` free cells.
 pub fn put_back<H: Heap>(heap: &mut H, count: u32, last: u32, index: u32)
-    ensures { sound heap.old → index < (meaning heap.old).size → last < (meaning heap.old).size → InRange (meaning heap.old).size ((meaning heap.old).right last) → (meaning heap.new ≡ cells_freed (meaning heap.old) (count == 0) last index) × sound heap.new }
+    ensures { H.sound heap.old → index < (H.meaning heap.old).size → last < (H.meaning heap.old).size → InRange (H.meaning heap.old).size ((H.meaning heap.old).right last) → (H.meaning heap.new ≡ cells_freed (H.meaning heap.old) (count == 0) last index) × H.sound heap.new }
 {
     if count != 0 {
         link(heap, last, Content::Cell(index));
@@ -108,7 +108,7 @@ fn make_used<H: Heap>(
     right: Content,
     place: u32,
 )
-    ensures { sound heap.old → index < (meaning heap.old).size → InRange (meaning heap.old).size left → InRange (meaning heap.old).size right → (meaning heap.new ≡ cells_used (meaning heap.old) index joint left right place) × sound heap.new }
+    ensures { H.sound heap.old → index < (H.meaning heap.old).size → InRange (H.meaning heap.old).size left → InRange (H.meaning heap.old).size right → (H.meaning heap.new ≡ cells_used (H.meaning heap.old) index joint left right place) × H.sound heap.new }
 {
     lay(heap, index, joint, left, right, Tag::Used);
     let _ = heap.paint(index, Colour::Mark(MarkColour::Black));
@@ -124,7 +124,7 @@ pub fn give<H: Heap>(
     right: Content,
     place: u32,
 )
-    ensures { sound heap.old → index < (meaning heap.old).size → InRange (meaning heap.old).size left → InRange (meaning heap.old).size right → (meaning heap.new ≡ cells_given (meaning heap.old) index joint left right place) × sound heap.new }
+    ensures { H.sound heap.old → index < (H.meaning heap.old).size → InRange (H.meaning heap.old).size left → InRange (H.meaning heap.old).size right → (H.meaning heap.new ≡ cells_given (H.meaning heap.old) index joint left right place) × H.sound heap.new }
 {
     shade(heap, left);
     shade(heap, right);
@@ -133,7 +133,7 @@ pub fn give<H: Heap>(
 
 // Ties a content to a side of a cell, and shades it.
 pub fn tie_shaded<H: Heap>(heap: &mut H, index: u32, side: Side, content: Content)
-    ensures { sound heap.old → index < (meaning heap.old).size → InRange (meaning heap.old).size content → InRange (meaning heap.old).size ((meaning heap.old).left index) → InRange (meaning heap.old).size ((meaning heap.old).right index) → (meaning heap.new ≡ tied_cells (cells_shaded (meaning heap.old) content) side index content) × sound heap.new }
+    ensures { H.sound heap.old → index < (H.meaning heap.old).size → InRange (H.meaning heap.old).size content → InRange (H.meaning heap.old).size ((H.meaning heap.old).left index) → InRange (H.meaning heap.old).size ((H.meaning heap.old).right index) → (H.meaning heap.new ≡ tied_cells (cells_shaded (H.meaning heap.old) content) side index content) × H.sound heap.new }
 {
     shade(heap, content);
     tie(heap, index, side, content);
@@ -141,7 +141,7 @@ pub fn tie_shaded<H: Heap>(heap: &mut H, index: u32, side: Side, content: Conten
 
 // Ties a content to a side of a cell.
 fn tie<H: Heap>(heap: &mut H, index: u32, side: Side, content: Content)
-    ensures { sound heap.old → index < (meaning heap.old).size → InRange (meaning heap.old).size content → InRange (meaning heap.old).size ((meaning heap.old).left index) → InRange (meaning heap.old).size ((meaning heap.old).right index) → (meaning heap.new ≡ tied_cells (meaning heap.old) side index content) × sound heap.new }
+    ensures { H.sound heap.old → index < (H.meaning heap.old).size → InRange (H.meaning heap.old).size content → InRange (H.meaning heap.old).size ((H.meaning heap.old).left index) → InRange (H.meaning heap.old).size ((H.meaning heap.old).right index) → (H.meaning heap.new ≡ tied_cells (H.meaning heap.old) side index content) × H.sound heap.new }
 {
     let cell = look(heap, index);
     match side {
@@ -173,7 +173,7 @@ fn link_of(size: u32, index: u32) -> Content
 
 // Makes a cell free and white, with this left.
 fn renew<H: Heap>(heap: &mut H, index: u32, left: Content)
-    ensures { sound heap.old → index < (meaning heap.old).size → InRange (meaning heap.old).size left → (meaning heap.new ≡ cells_renewed (meaning heap.old) index left) × sound heap.new }
+    ensures { H.sound heap.old → index < (H.meaning heap.old).size → InRange (H.meaning heap.old).size left → (H.meaning heap.new ≡ cells_renewed (H.meaning heap.old) index left) × H.sound heap.new }
 {
     lay(
         heap,
@@ -189,7 +189,7 @@ fn renew<H: Heap>(heap: &mut H, index: u32, left: Content)
 
 // Makes all cells free, in rising order, whatever they held.
 pub fn reset<H: Heap>(heap: &mut H, size: u32)
-    ensures { sound heap.old → size ≡ (meaning heap.old).size → (meaning heap.new ≡ opened_cells size) × sound heap.new }
+    ensures { H.sound heap.old → size ≡ (H.meaning heap.old).size → (H.meaning heap.new ≡ opened_cells size) × H.sound heap.new }
 {
     for index in 0..size {
         renew(heap, index, link_of(size, index));

@@ -33,7 +33,7 @@ fn front_behind(count: u32, front: u32, cell: u32) -> u32
 impl<H: Heap> Store<H> {
     // A new store over a heap, whatever it held, with 1 to 96 holds.
     pub(crate) fn open(mut heap: H, holds: u32) -> Store<H>
-        ensures { sound heap → InState meaning sound result (opened (meaning heap).size holds) }
+        ensures { H.sound heap → InState H.meaning H.sound result (opened (H.meaning heap).size holds) }
     {
         let size = heap.size();
         reset(&mut heap, size);
@@ -50,8 +50,8 @@ impl<H: Heap> Store<H> {
 
     // Blackens the grey cell that a mark at cell `from` finds.
     fn mark_cell(&mut self, from: u32) -> Option<u32>
-        ensures found { WellFormed meaning sound self.old → result ≡ next_grey (meaning self.old.heap) from }
-        ensures cells { WellFormed meaning sound self.old → (meaning self.new.heap ≡ found_cells (meaning self.old.heap) (next_grey (meaning self.old.heap) from)) × sound self.new.heap }
+        ensures found { WellFormed H.meaning H.sound self.old → result ≡ next_grey (H.meaning self.old.heap) from }
+        ensures cells { WellFormed H.meaning H.sound self.old → (H.meaning self.new.heap ≡ found_cells (H.meaning self.old.heap) (next_grey (H.meaning self.old.heap) from)) × H.sound self.new.heap }
         ensures rest { self.new ≡ with_heap self.old self.new.heap }
     {
         let found = next_grey(&self.heap, from);
@@ -63,8 +63,8 @@ impl<H: Heap> Store<H> {
 
     // What a mark does to the cells, and the grey cell that it finds.
     fn trace(&mut self) -> Option<u32>
-        ensures found { WellFormed meaning sound self.old → result ≡ found_at (meaning self.old.heap) self.old.stage }
-        ensures cells { WellFormed meaning sound self.old → (meaning self.new.heap ≡ marked_cells (view meaning self.old) self.old.stage) × sound self.new.heap }
+        ensures found { WellFormed H.meaning H.sound self.old → result ≡ found_at (H.meaning self.old.heap) self.old.stage }
+        ensures cells { WellFormed H.meaning H.sound self.old → (H.meaning self.new.heap ≡ marked_cells (view H.meaning self.old) self.old.stage) × H.sound self.new.heap }
         ensures rest { self.new ≡ with_heap self.old self.new.heap }
     {
         match self.stage {
@@ -80,8 +80,8 @@ impl<H: Heap> Store<H> {
 
     // One step of the marker.
     pub(crate) fn mark(&mut self) -> MarkAnswer
-        ensures answer { WellFormed meaning sound self.old → result ≡ mark_answer (view meaning self.old) }
-        ensures after { WellFormed meaning sound self.old → InState meaning sound self.new (after_mark (view meaning self.old)) }
+        ensures answer { WellFormed H.meaning H.sound self.old → result ≡ mark_answer (view H.meaning self.old) }
+        ensures after { WellFormed H.meaning H.sound self.old → InState H.meaning H.sound self.new (after_mark (view H.meaning self.old)) }
     {
         let found = self.trace();
         self.stage.advance(self.holds.count, found)
@@ -89,7 +89,7 @@ impl<H: Heap> Store<H> {
 
     // Puts the cell back that the sweeper is at, and goes on.
     fn put_back(&mut self, cell: u32)
-        ensures { WellFormed meaning sound self.old → cell ≡ self.old.place → cell < (meaning self.old.heap).size → (meaning self.old.heap).tag cell ≡ Used → (meaning self.old.heap).sweep cell ≡ White → InState meaning sound self.new (put_back (view meaning self.old)) }
+        ensures { WellFormed H.meaning H.sound self.old → cell ≡ self.old.place → cell < (H.meaning self.old.heap).size → (H.meaning self.old.heap).tag cell ≡ Used → (H.meaning self.old.heap).sweep cell ≡ White → InState H.meaning H.sound self.new (put_back (view H.meaning self.old)) }
     {
         steps::put_back(&mut self.heap, self.count, self.last, cell);
         self.front = front_behind(self.count, self.front, cell);
@@ -100,7 +100,7 @@ impl<H: Heap> Store<H> {
 
     // Passes the cell that the sweeper is at.
     fn pass_by(&mut self, cell: u32)
-        ensures { WellFormed meaning sound self.old → cell ≡ self.old.place → cell < (meaning self.old.heap).size → ((meaning self.old.heap).tag cell ≡ Used → (meaning self.old.heap).sweep cell ≡ Black) → InState meaning sound self.new (pass_by (view meaning self.old)) }
+        ensures { WellFormed H.meaning H.sound self.old → cell ≡ self.old.place → cell < (H.meaning self.old.heap).size → ((H.meaning self.old.heap).tag cell ≡ Used → (H.meaning self.old.heap).sweep cell ≡ Black) → InState H.meaning H.sound self.new (pass_by (view H.meaning self.old)) }
     {
         whiten(&mut self.heap, cell);
         self.place = cell.saturating_add(1);
@@ -108,8 +108,8 @@ impl<H: Heap> Store<H> {
 
     // Sweeps the cell that the sweeper is at; answers whether it was put back.
     fn sweep_cell(&mut self, cell: u32) -> bool
-        ensures answer { WellFormed meaning sound self.old → cell ≡ self.old.place → cell < (meaning self.old.heap).size → result ≡ puts_back (view meaning self.old) }
-        ensures after { WellFormed meaning sound self.old → cell ≡ self.old.place → cell < (meaning self.old.heap).size → InState meaning sound self.new (after_sweep (view meaning self.old)) }
+        ensures answer { WellFormed H.meaning H.sound self.old → cell ≡ self.old.place → cell < (H.meaning self.old.heap).size → result ≡ puts_back (view H.meaning self.old) }
+        ensures after { WellFormed H.meaning H.sound self.old → cell ≡ self.old.place → cell < (H.meaning self.old.heap).size → InState H.meaning H.sound self.new (after_sweep (view H.meaning self.old)) }
     {
         if is_lost(look(&self.heap, cell)) {
             self.put_back(cell);
@@ -122,8 +122,8 @@ impl<H: Heap> Store<H> {
 
     // One step of the sweeper: the cell and whether it was put back, or none at the end.
     pub(crate) fn sweep(&mut self) -> Option<(u32, bool)>
-        ensures answer { WellFormed meaning sound self.old → result ≡ sweep_answer (view meaning self.old) }
-        ensures after { WellFormed meaning sound self.old → InState meaning sound self.new (after_sweep (view meaning self.old)) }
+        ensures answer { WellFormed H.meaning H.sound self.old → result ≡ sweep_answer (view H.meaning self.old) }
+        ensures after { WellFormed H.meaning H.sound self.old → InState H.meaning H.sound self.new (after_sweep (view H.meaning self.old)) }
     {
         let cell = self.place;
         if cell >= self.heap.size() {
@@ -135,7 +135,7 @@ impl<H: Heap> Store<H> {
 
     // Have marking and sweeping ended?
     fn may_turn(&self) -> bool
-        ensures { WellFormed meaning sound self.now → result ≡ can_turn (view meaning self.now) }
+        ensures { WellFormed H.meaning H.sound self.now → result ≡ can_turn (view H.meaning self.now) }
     {
         match self.stage {
             Stage::Ended => self.place == self.heap.size(),
@@ -145,7 +145,7 @@ impl<H: Heap> Store<H> {
 
     // Exchanges the colours and starts again.
     fn turn_round(&mut self)
-        ensures { WellFormed meaning sound self.old → can_turn (view meaning self.old) ≡ true → InState meaning sound self.new (turned (view meaning self.old)) }
+        ensures { WellFormed H.meaning H.sound self.old → can_turn (view H.meaning self.old) ≡ true → InState H.meaning H.sound self.new (turned (view H.meaning self.old)) }
     {
         let _ = self.heap.exchange();
         self.stage = Stage::AtHold(0);
@@ -154,8 +154,8 @@ impl<H: Heap> Store<H> {
 
     // The turn: what was marked is swept next.
     pub(crate) fn turn(&mut self) -> Result<(), StoreFault>
-        ensures answer { WellFormed meaning sound self.old → result ≡ turn_answer (view meaning self.old) }
-        ensures after { WellFormed meaning sound self.old → InState meaning sound self.new (after_turn (view meaning self.old)) }
+        ensures answer { WellFormed H.meaning H.sound self.old → result ≡ turn_answer (view H.meaning self.old) }
+        ensures after { WellFormed H.meaning H.sound self.old → InState H.meaning H.sound self.new (after_turn (view H.meaning self.old)) }
     {
         if !self.may_turn() {
             return Err(StoreFault::TooEarly);
@@ -166,7 +166,7 @@ impl<H: Heap> Store<H> {
 
     // One increment of the collector's work.
     pub(crate) fn unit(&mut self)
-        ensures { WellFormed meaning sound self.old → InState meaning sound self.new (after_unit (view meaning self.old)) }
+        ensures { WellFormed H.meaning H.sound self.old → InState H.meaning H.sound self.new (after_unit (view H.meaning self.old)) }
     {
         self.mark();
         self.sweep();
@@ -175,7 +175,7 @@ impl<H: Heap> Store<H> {
 
     // So many units.
     pub(crate) fn work(&mut self, units: u32)
-        ensures { WellFormed meaning sound self.old → InState meaning sound self.new (after_units units (view meaning self.old)) }
+        ensures { WellFormed H.meaning H.sound self.old → InState H.meaning H.sound self.new (after_units units (view H.meaning self.old)) }
     {
         for _unit in 0..units {
             self.unit();
@@ -184,7 +184,7 @@ impl<H: Heap> Store<H> {
 
     // K: how many units contain a turn.
     pub(crate) fn span(&self) -> u32
-        ensures { WellFormed meaning sound self.now → result ≡ span (view meaning self.now) }
+        ensures { WellFormed H.meaning H.sound self.now → result ≡ span (view H.meaning self.now) }
     {
         self.holds
             .count

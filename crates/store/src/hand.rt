@@ -14,21 +14,21 @@ use steps::{look, shade, tie_shaded};
 impl<H: Heap> Store<H> {
     // A yarn in a hold.
     fn set_yarn(&mut self, hold: u32, yarn: u32)
-        ensures { WellFormed meaning sound self.old → hold < self.old.holds.count → yarn ≤ 4095 → InState meaning sound self.new (with_hold (view meaning self.old) hold (Yarn yarn)) }
+        ensures { WellFormed H.meaning H.sound self.old → hold < self.old.holds.count → yarn ≤ 4095 → InState H.meaning H.sound self.new (with_hold (view H.meaning self.old) hold (Yarn yarn)) }
     {
         self.holds.set(hold, Content::Yarn(yarn));
     }
 
     // Nothing in a hold.
     fn set_nothing(&mut self, hold: u32)
-        ensures { WellFormed meaning sound self.old → hold < self.old.holds.count → InState meaning sound self.new (with_hold (view meaning self.old) hold Nothing) }
+        ensures { WellFormed H.meaning H.sound self.old → hold < self.old.holds.count → InState H.meaning H.sound self.new (with_hold (view H.meaning self.old) hold Nothing) }
     {
         self.holds.set(hold, Content::Nothing);
     }
 
     // The content of a hold in another hold.
     fn copy_hold(&mut self, hold: u32, from: u32)
-        ensures { WellFormed meaning sound self.old → hold < self.old.holds.count → from < self.old.holds.count → InState meaning sound self.new (move_into (view meaning self.old) hold ((view meaning self.old).hold from)) }
+        ensures { WellFormed H.meaning H.sound self.old → hold < self.old.holds.count → from < self.old.holds.count → InState H.meaning H.sound self.new (move_into (view H.meaning self.old) hold ((view H.meaning self.old).hold from)) }
     {
         let content = self.holds.content(from);
         shade(&mut self.heap, content);
@@ -37,7 +37,7 @@ impl<H: Heap> Store<H> {
 
     // A side of the cell in a hold, in another hold.
     fn follow_cell(&mut self, hold: u32, cell: u32, side: Side, into: u32)
-        ensures { WellFormed meaning sound self.old → hold < self.old.holds.count → into < self.old.holds.count → (view meaning self.old).hold hold ≡ Cell cell → InState meaning sound self.new (move_into (view meaning self.old) into (content_at (meaning self.old.heap) side cell)) }
+        ensures { WellFormed H.meaning H.sound self.old → hold < self.old.holds.count → into < self.old.holds.count → (view H.meaning self.old).hold hold ≡ Cell cell → InState H.meaning H.sound self.new (move_into (view H.meaning self.old) into (content_at (H.meaning self.old.heap) side cell)) }
     {
         let content = look(&self.heap, cell).content_on(side);
         shade(&mut self.heap, content);
@@ -46,7 +46,7 @@ impl<H: Heap> Store<H> {
 
     // The content of a hold on a side of the cell in another hold.
     fn tie_cell(&mut self, hold: u32, cell: u32, side: Side, from: u32)
-        ensures { WellFormed meaning sound self.old → hold < self.old.holds.count → from < self.old.holds.count → (view meaning self.old).hold hold ≡ Cell cell → InState meaning sound self.new (tie_to (view meaning self.old) side cell ((view meaning self.old).hold from)) }
+        ensures { WellFormed H.meaning H.sound self.old → hold < self.old.holds.count → from < self.old.holds.count → (view H.meaning self.old).hold hold ≡ Cell cell → InState H.meaning H.sound self.new (tie_to (view H.meaning self.old) side cell ((view H.meaning self.old).hold from)) }
     {
         let content = self.holds.content(from);
         tie_shaded(&mut self.heap, cell, side, content);
@@ -54,8 +54,8 @@ impl<H: Heap> Store<H> {
 
     // Sets a hold to a yarn.
     pub(crate) fn yarn(&mut self, hold: u32, yarn: u32) -> Result<(), StoreFault>
-        ensures answer { WellFormed meaning sound self.old → result ≡ yarn_answer (view meaning self.old) hold yarn }
-        ensures after { WellFormed meaning sound self.old → InState meaning sound self.new (after_yarn (view meaning self.old) hold yarn) }
+        ensures answer { WellFormed H.meaning H.sound self.old → result ≡ yarn_answer (view H.meaning self.old) hold yarn }
+        ensures after { WellFormed H.meaning H.sound self.old → InState H.meaning H.sound self.new (after_yarn (view H.meaning self.old) hold yarn) }
     {
         if !self.holds.has(hold) {
             return Err(StoreFault::NoHold);
@@ -69,8 +69,8 @@ impl<H: Heap> Store<H> {
 
     // Sets a hold to nothing.
     pub(crate) fn drop_hold(&mut self, hold: u32) -> Result<(), StoreFault>
-        ensures answer { WellFormed meaning sound self.old → result ≡ drop_answer (view meaning self.old) hold }
-        ensures after { WellFormed meaning sound self.old → InState meaning sound self.new (after_drop (view meaning self.old) hold) }
+        ensures answer { WellFormed H.meaning H.sound self.old → result ≡ drop_answer (view H.meaning self.old) hold }
+        ensures after { WellFormed H.meaning H.sound self.old → InState H.meaning H.sound self.new (after_drop (view H.meaning self.old) hold) }
     {
         if !self.holds.has(hold) {
             return Err(StoreFault::NoHold);
@@ -81,8 +81,8 @@ impl<H: Heap> Store<H> {
 
     // Sets a hold to the content of another.
     pub(crate) fn copy(&mut self, hold: u32, from: u32) -> Result<(), StoreFault>
-        ensures answer { WellFormed meaning sound self.old → result ≡ copy_answer (view meaning self.old) hold from }
-        ensures after { WellFormed meaning sound self.old → InState meaning sound self.new (after_copy (view meaning self.old) hold from) }
+        ensures answer { WellFormed H.meaning H.sound self.old → result ≡ copy_answer (view H.meaning self.old) hold from }
+        ensures after { WellFormed H.meaning H.sound self.old → InState H.meaning H.sound self.new (after_copy (view H.meaning self.old) hold from) }
     {
         if !self.holds.has(hold) {
             return Err(StoreFault::NoHold);
@@ -96,8 +96,8 @@ impl<H: Heap> Store<H> {
 
     // Sets a hold to a side of the cell in another.
     pub(crate) fn follow(&mut self, hold: u32, side: Side, into: u32) -> Result<(), StoreFault>
-        ensures answer { WellFormed meaning sound self.old → result ≡ follow_answer (view meaning self.old) hold into }
-        ensures after { WellFormed meaning sound self.old → InState meaning sound self.new (after_follow (view meaning self.old) hold side into) }
+        ensures answer { WellFormed H.meaning H.sound self.old → result ≡ follow_answer (view H.meaning self.old) hold into }
+        ensures after { WellFormed H.meaning H.sound self.old → InState H.meaning H.sound self.new (after_follow (view H.meaning self.old) hold side into) }
     {
         if !self.holds.has(hold) {
             return Err(StoreFault::NoHold);
@@ -114,8 +114,8 @@ impl<H: Heap> Store<H> {
 
     // Sets a side of the cell in a hold to the content of another hold.
     pub(crate) fn tie(&mut self, hold: u32, side: Side, from: u32) -> Result<(), StoreFault>
-        ensures answer { WellFormed meaning sound self.old → result ≡ tie_answer (view meaning self.old) hold from }
-        ensures after { WellFormed meaning sound self.old → InState meaning sound self.new (after_tie (view meaning self.old) hold side from) }
+        ensures answer { WellFormed H.meaning H.sound self.old → result ≡ tie_answer (view H.meaning self.old) hold from }
+        ensures after { WellFormed H.meaning H.sound self.old → InState H.meaning H.sound self.new (after_tie (view H.meaning self.old) hold side from) }
     {
         if !self.holds.has(hold) {
             return Err(StoreFault::NoHold);

@@ -24,8 +24,8 @@ fn joint_of(byte: u8) -> Result<Joint, StoreFault>
 impl<H: Heap> Store<H> {
     // Units until a cell is free, at most `limit`; answers how many.
     fn hunt(&mut self, limit: u32) -> u32
-        ensures answer { WellFormed meaning sound self.old → result ≡ hunted_units limit (view meaning self.old) }
-        ensures after { WellFormed meaning sound self.old → InState meaning sound self.new (hunt_for limit (view meaning self.old)) }
+        ensures answer { WellFormed H.meaning H.sound self.old → result ≡ hunted_units limit (view H.meaning self.old) }
+        ensures after { WellFormed H.meaning H.sound self.old → InState H.meaning H.sound self.new (hunt_for limit (view H.meaning self.old)) }
     {
         let mut units = 0;
         while units < limit && self.count == 0 {
@@ -37,8 +37,8 @@ impl<H: Heap> Store<H> {
 
     // Runs the units of a take; answers how many.
     fn labour(&mut self, pace: Pace) -> u32
-        ensures answer { WellFormed meaning sound self.old → result ≡ units_run (view meaning self.old) (pace_of pace) }
-        ensures after { WellFormed meaning sound self.old → InState meaning sound self.new (worked (view meaning self.old) (pace_of pace)) }
+        ensures answer { WellFormed H.meaning H.sound self.old → result ≡ units_run (view H.meaning self.old) (pace_of pace) }
+        ensures after { WellFormed H.meaning H.sound self.old → InState H.meaning H.sound self.new (worked (view H.meaning self.old) (pace_of pace)) }
     {
         let span = self.span();
         if self.count == 0 {
@@ -53,7 +53,7 @@ impl<H: Heap> Store<H> {
     // Gives the front of the free list away.
     fn give_front(&mut self, hold: u32, joint: Joint, left: u32, right: u32) -> u32
         ensures answer { result ≡ self.old.front }
-        ensures after { WellFormed meaning sound self.old → 0 < self.old.count → hold < self.old.holds.count → left < self.old.holds.count → right < self.old.holds.count → InState meaning sound self.new (take_front (view meaning self.old) (view meaning self.old).free hold joint left right) }
+        ensures after { WellFormed H.meaning H.sound self.old → 0 < self.old.count → hold < self.old.holds.count → left < self.old.holds.count → right < self.old.holds.count → InState H.meaning H.sound self.new (take_front (view H.meaning self.old) (view H.meaning self.old).free hold joint left right) }
     {
         let cell = self.front;
         let next = cell_in(look(&self.heap, cell).left);
@@ -75,8 +75,8 @@ impl<H: Heap> Store<H> {
         right: u32,
         units: u32,
     ) -> Result<(u32, u32), StoreFault>
-        ensures answer { result ≡ front_answer (view meaning self.old).free units }
-        ensures after { WellFormed meaning sound self.old → hold < self.old.holds.count → left < self.old.holds.count → right < self.old.holds.count → InState meaning sound self.new (take_front (view meaning self.old) (view meaning self.old).free hold joint left right) }
+        ensures answer { result ≡ front_answer (view H.meaning self.old).free units }
+        ensures after { WellFormed H.meaning H.sound self.old → hold < self.old.holds.count → left < self.old.holds.count → right < self.old.holds.count → InState H.meaning H.sound self.new (take_front (view H.meaning self.old) (view H.meaning self.old).free hold joint left right) }
     {
         if self.count == 0 {
             return Err(StoreFault::NoCell(units));
@@ -87,7 +87,7 @@ impl<H: Heap> Store<H> {
 
     // What a take refuses before it runs a unit.
     fn check_take(&self, hold: u32, joint: u8, left: u32, right: u32) -> Result<Joint, StoreFault>
-        ensures { result ≡ take_joint (view meaning self.now) hold joint left right }
+        ensures { result ≡ take_joint (view H.meaning self.now) hold joint left right }
     {
         if !self.holds.has(hold) {
             return Err(StoreFault::NoHold);
@@ -110,8 +110,8 @@ impl<H: Heap> Store<H> {
         right: u32,
         pace: Pace,
     ) -> Result<(u32, u32), StoreFault>
-        ensures answer { WellFormed meaning sound self.old → result ≡ take_answer (view meaning self.old) hold joint left right (pace_of pace) }
-        ensures after { WellFormed meaning sound self.old → InState meaning sound self.new (after_take (view meaning self.old) hold joint left right (pace_of pace)) }
+        ensures answer { WellFormed H.meaning H.sound self.old → result ≡ take_answer (view H.meaning self.old) hold joint left right (pace_of pace) }
+        ensures after { WellFormed H.meaning H.sound self.old → InState H.meaning H.sound self.new (after_take (view H.meaning self.old) hold joint left right (pace_of pace)) }
     {
         let joint = self.check_take(hold, joint, left, right)?;
         let units = self.labour(pace);

@@ -8,7 +8,7 @@ use cells::{Colour, Heap, HeapFault, grey_weight};
 // 1 if there is such a cell and it is grey, else 0.
 pub(crate) fn grey_at<H: Heap>(heap: &H, index: u32) -> u32
     ensures small { result ≤ 1 }
-    ensures exact { sound heap.now → result ≡ grey_at (meaning heap.now) index }
+    ensures exact { H.sound heap.now → result ≡ grey_at (H.meaning heap.now) index }
 {
     match heap.read(index) {
         Ok(cell) => grey_weight(cell.mark),
@@ -18,7 +18,7 @@ pub(crate) fn grey_at<H: Heap>(heap: &H, index: u32) -> u32
 
 // How many cells are grey.
 pub(crate) fn count_grey<H: Heap>(heap: &H) -> u32
-    ensures { sound heap.now → result ≡ grey_count (meaning heap.now) }
+    ensures { H.sound heap.now → result ≡ grey_count (H.meaning heap.now) }
 {
     let mut count = 0;
     for index in 0..heap.size() {

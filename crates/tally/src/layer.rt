@@ -17,7 +17,7 @@ impl<H: Heap> GreyTally<H> {
     // Lays a tally over a heap, which stays as it is.
     pub fn lay(below: H) -> GreyTally<H>
         ensures below { result.below ≡ below }
-        ensures sound { sound below → sound result.below × (result.count ≡ grey_count (meaning result.below)) }
+        ensures sound { H.sound below → H.sound result.below × (result.count ≡ grey_count (H.meaning result.below)) }
     {
         let count = count_grey(&below);
         GreyTally { below, count }
@@ -33,9 +33,9 @@ impl<H: Heap> GreyTally<H> {
 
     // Exchanges the colours of the heap below. The count stays: no cell was grey, and none becomes grey.
     fn exchange_below(&mut self) -> Result<(), HeapFault>
-        ensures result { sound self.old.below → result ≡ exchange_answer (meaning self.old.below) }
-        ensures after { sound self.old.below → meaning self.new.below ≡ exchange_cells (meaning self.old.below) }
-        ensures kept { sound self.old.below → sound self.new.below }
+        ensures result { H.sound self.old.below → result ≡ exchange_answer (H.meaning self.old.below) }
+        ensures after { H.sound self.old.below → H.meaning self.new.below ≡ exchange_cells (H.meaning self.old.below) }
+        ensures kept { H.sound self.old.below → H.sound self.new.below }
         ensures count { self.new.count ≡ self.old.count }
     {
         self.below.exchange()
@@ -85,7 +85,7 @@ impl<H: Heap> Heap for GreyTally<H> {
 
     // While the count is 0 the heap below is not asked: the answer is none, whatever that heap is.
     fn first_grey(&self, from: u32) -> Option<u32>
-        ensures found { sound self.now.below × (self.now.count ≡ grey_count (meaning self.now.below)) → result ≡ first_grey (meaning self.now.below) from }
+        ensures found { H.sound self.now.below × (self.now.count ≡ grey_count (H.meaning self.now.below)) → result ≡ first_grey (H.meaning self.now.below) from }
         ensures unasked { self.now.count ≡ 0 → result ≡ None }
     {
         if self.is_zero() {

@@ -10,19 +10,19 @@ use Rattle.planes.proofs.heap.PlanesHeap.new.Goals as goal
 pub returns : goal.returns
 returns c =
     let a = c.args in
-    let is = c.room-for-size.ensures.size in
-    let room = subst (λ k. Room k (length a.links.now) (length a.grey.now) (length a.mark.now) (length a.sweep.now)) is c.room-for-size.ensures.room in
+    let is = c.room_for-size.ensures.size in
+    let room = subst (λ k. Room k (length a.links.now) (length a.grey.now) (length a.mark.now) (length a.sweep.now)) is c.room_for-size.ensures.room in
     let h : PlanesHeap = record {
-      links = at_last a.links c.renew-links.new.memory;
-      grey = at_last a.grey c.clear-bits.new.plane;
-      mark = at_last a.mark c.clear-bits-2.new.plane;
-      sweep = at_last a.sweep c.clear-bits-3.new.plane;
+      links = at_last a.links c.renew_links.new.memory;
+      grey = at_last a.grey c.clear_bits.new.plane;
+      mark = at_last a.mark c.clear_bits-2.new.plane;
+      sweep = at_last a.sweep c.clear_bits-3.new.plane;
     } in
     let made : MadeIn a.links a.grey a.mark a.sweep h = record {
-      records = c.renew-links.ensures ∙ ap (λ k. replicate k new_links ++ drop k a.links.now) is;
-      greys = subst (λ k. Cleared k a.grey.now c.clear-bits.new.plane) is c.clear-bits.ensures;
-      marks = subst (λ k. Cleared k a.mark.now c.clear-bits-2.new.plane) is c.clear-bits-2.ensures;
-      sweeps = subst (λ k. Cleared k a.sweep.now c.clear-bits-3.new.plane) is c.clear-bits-3.ensures;
+      records = c.renew_links.ensures ∙ ap (λ k. replicate k new_links ++ drop k a.links.now) is;
+      greys = subst (λ k. Cleared k a.grey.now c.clear_bits.new.plane) is c.clear_bits.ensures;
+      marks = subst (λ k. Cleared k a.mark.now c.clear_bits-2.new.plane) is c.clear_bits-2.ensures;
+      sweeps = subst (λ k. Cleared k a.sweep.now c.clear_bits-3.new.plane) is c.clear_bits-3.ensures;
       lenders = (refl, refl, refl, refl);
     } in
     record {

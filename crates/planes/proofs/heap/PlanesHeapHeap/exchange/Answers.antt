@@ -9,9 +9,9 @@ use Rattle.planes.proofs.heap.PlanesHeapHeap.exchange.Goals as goal
 pub returns : goal.returns
 returns c =
     let h = c.args.self.now in
-    let ok = c.in-ok-check-exchange.ensures ∙ ap (λ r. answer (grey_fault r) tt) c.grey-from.ensures in
+    let ok = c.in_ok-check_exchange.ensures ∙ ap (λ r. answer (grey_fault r) tt) c.grey_from.ensures in
     let none = accepted_none (exchange_fault (cells_of_planes h)) ok in
-    let e = c.swap-parts.ensures in
+    let e = c.swap_parts.ensures in
     record {
       result = λ _. ok;
       after = λ _. ap cells_of_planes e ∙ swap_cells h none;

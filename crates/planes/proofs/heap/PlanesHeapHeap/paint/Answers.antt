@@ -10,11 +10,11 @@ pub returns-in-Mark : goal.returns-in-Mark
 returns-in-Mark c =
     let a = c.args in
     let h = a.self.now in
-    let t = c.paint-mark.new.self in
+    let t = c.paint_mark.new.self in
     let size = c.limit.ensures.size in
     let room = room_in h c.limit.result size c.limit.ensures.room in
-    let ok = subst (λ n. Accepted (index_fault n a.index)) size c.in-ok-check-index.ensures in
-    let p = c.paint-mark.ensures in
+    let ok = subst (λ n. Accepted (index_fault n a.index)) size c.in_ok-check_index.ensures in
+    let p = c.paint_mark.ensures in
     record {
       result = λ _. ok;
       after = λ _. mark_cells h t a.index c.in-Mark.mark p ok room ∙ ap (paint_cells (cells_of_planes h) a.index) (sym c.in-Mark.is);
@@ -26,11 +26,11 @@ pub returns-in-Sweep : goal.returns-in-Sweep
 returns-in-Sweep c =
     let a = c.args in
     let h = a.self.now in
-    let t = c.paint-sweep.new.self in
+    let t = c.paint_sweep.new.self in
     let size = c.limit.ensures.size in
     let room = room_in h c.limit.result size c.limit.ensures.room in
-    let ok = subst (λ n. Accepted (index_fault n a.index)) size c.in-ok-check-index.ensures in
-    let p = c.paint-sweep.ensures in
+    let ok = subst (λ n. Accepted (index_fault n a.index)) size c.in_ok-check_index.ensures in
+    let p = c.paint_sweep.ensures in
     record {
       result = λ _. ok;
       after = λ _. sweep_cells h t a.index c.in-Sweep.sweep p ok room ∙ ap (paint_cells (cells_of_planes h) a.index) (sym c.in-Sweep.is);

@@ -12,13 +12,13 @@ returns c =
     let h = a.self.now in
     let size = c.limit.ensures.size in
     let room = room_in h c.limit.result size c.limit.ensures.room in
-    let ok = subst (λ n. Accepted (write_fault n a.index a.left a.right)) size c.in-default.ensures in
-    let links = at_last h.links c.set-links.new.memory in
+    let ok = subst (λ n. Accepted (write_fault n a.index a.left a.right)) size c.in_default.ensures in
+    let links = at_last h.links c.set_links.new.memory in
     record {
       result = λ _. ok;
-      after = λ _. write_cells_lem h links a.index a.joint a.left a.right a.tag c.set-links.ensures ok room;
-      kept = λ s. write_sound h links a.index a.joint a.left a.right a.tag c.set-links.ensures ok room s;
-      beyond = write_beyond h links a.index a.joint a.left a.right a.tag c.set-links.ensures ok room refl;
+      after = λ _. write_cells_lem h links a.index a.joint a.left a.right a.tag c.set_links.ensures ok room;
+      kept = λ s. write_sound h links a.index a.joint a.left a.right a.tag c.set_links.ensures ok room s;
+      beyond = write_beyond h links a.index a.joint a.left a.right a.tag c.set_links.ensures ok room refl;
     }
 
 pub returns-in-Err : goal.returns-in-Err

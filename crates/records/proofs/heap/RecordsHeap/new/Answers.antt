@@ -9,7 +9,7 @@ use Rattle.records.proofs.heap.RecordsHeap.new.Goals as goal
 pub returns : goal.returns
 returns c =
     let d = c.args.memory.now in
-    let made = c.renew-front.ensures ∙ ap (λ k. replicate k new_cell ++ drop k d) c.front-length-size.ensures in
+    let made = c.renew_front.ensures ∙ ap (λ k. replicate k new_cell ++ drop k d) c.front_length-size.ensures in
     let fresh = ap cells_in made ∙ new_in d in
     record {
       made = record { records = made; lender = refl };

@@ -12,12 +12,12 @@ use Rattle.records.proofs.heap.RecordsHeapHeap.exchange.Goals as goal
 pub returns : goal.returns
 returns c =
     let cs = c.args.self.now.cells.now in
-    let ok = c.in-ok-check-exchange.ensures ∙ ap (λ r. answer (grey_fault r) tt) c.grey-from.ensures in
-    let whole = c.exchange-front.ensures ∙ ap (λ n. map exchanged_cell (take n cs) ++ drop n cs) c.limit-size.ensures in
+    let ok = c.in_ok-check_exchange.ensures ∙ ap (λ r. answer (grey_fault r) tt) c.grey_from.ensures in
+    let whole = c.exchange_front.ensures ∙ ap (λ n. map exchanged_cell (take n cs) ++ drop n cs) c.limit-size.ensures in
     let e = ap cells_in whole ∙ exchange_in cs ∙ ap (λ f. exchange_unless f (cells_in cs)) (sym (accepted_none (exchange_fault (cells_in cs)) ok)) in
     record {
       result = λ _. ok;
       after = λ _. e;
       kept = λ p. subst Lawful (sym e) (exchange_lawful (cells_in cs) p);
-      beyond = exchange_keeps c.args.self.now c.exchange-front.new.memory whole;
+      beyond = exchange_keeps c.args.self.now c.exchange_front.new.memory whole;
     }

@@ -12,11 +12,11 @@ pub returns : goal.returns
 returns c =
     let a = c.args in
     let cs = a.self.now.cells.now in
-    let ok = subst (λ n. Accepted (index_fault n a.index)) c.limit.ensures c.in-ok-check-index.ensures in
-    let e = ap cells_in c.repaint-at.ensures ∙ paint_in cs a.index a.colour ok in
+    let ok = subst (λ n. Accepted (index_fault n a.index)) c.limit.ensures c.in_ok-check_index.ensures in
+    let e = ap cells_in c.repaint_at.ensures ∙ paint_in cs a.index a.colour ok in
     record {
       result = λ _. ok;
       after = λ _. e;
       kept = λ s. subst Lawful (sym e) (paint_lawful (cells_in cs) a.index a.colour s);
-      beyond = set_keeps a.self.now c.repaint-at.new.memory a.index _ (accepted_below (size_for (length cs)) a.index ok) c.repaint-at.ensures;
+      beyond = set_keeps a.self.now c.repaint_at.new.memory a.index _ (accepted_below (size_for (length cs)) a.index ok) c.repaint_at.ensures;
     }

@@ -7,4 +7,4 @@ use Rattle.records.proofs.heap.RecordsHeapHeap.read.Goals as goal
 pub returns : goal.returns
 returns c =
     let a = c.args in
-    λ _. ap Ok c.record-at.ensures ∙ read_in a.self.now.cells.now a.index (subst (λ n. Accepted (index_fault n a.index)) c.limit.ensures c.in-ok-check-index.ensures)
+    λ _. ap Ok c.record_at.ensures ∙ read_in a.self.now.cells.now a.index (subst (λ n. Accepted (index_fault n a.index)) c.limit.ensures c.in_ok-check_index.ensures)

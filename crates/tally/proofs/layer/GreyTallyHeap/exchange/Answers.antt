@@ -5,7 +5,7 @@ use Rattle.tally.proofs.layer.GreyTallyHeap.exchange.Goals as goal
 
 pub returns : goal.returns
 returns g c =
-    let e = c.exchange-below.ensures in
+    let e = c.exchange_below.ensures in
     record {
       result = λ s. e.result s.0;
       after = λ s. e.after s.0;
