@@ -4,14 +4,14 @@ use Rattle.text.proofs.Writes.{written_also}
 use Rattle.lines.proofs.Lengths.{counted_length}
 use Rattle.lines.proofs.write.put_counted.Goals as goal
 
-pub put-bytes-number-requires : goal.put-bytes-number-requires
-put-bytes-number-requires c = omega (arith, counted_length c.args.words.now c.args.count)
+pub put_bytes-number-requires : goal.put_bytes-number-requires
+put_bytes-number-requires c = omega (arith, counted_length c.args.words.now c.args.count)
 
-pub put-number-end-requires : goal.put-number-end-requires
-put-number-end-requires c = omega (arith, counted_length c.args.words.now c.args.count)
+pub put_number-end-requires : goal.put_number-end-requires
+put_number-end-requires c = omega (arith, counted_length c.args.words.now c.args.count)
 
-pub put-bytes-requires : goal.put-bytes-requires
-put-bytes-requires c = omega (arith, counted_length c.args.words.now c.args.count)
+pub put_bytes-requires : goal.put_bytes-requires
+put_bytes-requires c = omega (arith, counted_length c.args.words.now c.args.count)
 
 pub returns : goal.returns
 returns c =
@@ -20,9 +20,9 @@ returns c =
     let at = c.args.at in
     let words = c.args.words.now in
     let digits = decimal c.args.count in
-    let number = c.put-bytes-number.ensures in
-    let end = c.put-number-end.ensures in
-    let two = written_also buffer at c.put-bytes-number.result words digits number.after end.after number.end (omega arith) in
+    let number = c.put_bytes-number.ensures in
+    let end = c.put_number-end.ensures in
+    let two = written_also buffer at c.put_bytes-number.result words digits number.after end.after number.end (omega arith) in
     let both : length (words ++ digits) ≡ length words + length digits = length-append words digits in
-    written_also buffer at c.put-number-end.result (words ++ digits) (10 ∷ []) two c.put-bytes.ensures.after (omega arith) (omega arith)
+    written_also buffer at c.put_number-end.result (words ++ digits) (10 ∷ []) two c.put_bytes.ensures.after (omega arith) (omega arith)
     ∙ ap (written buffer at) (append_assoc words digits (10 ∷ []))
