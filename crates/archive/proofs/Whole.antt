@@ -1,5 +1,5 @@
 -- A text is read as a pattern exactly if it is that pattern's written text and the pattern is numbered by the rule.
-use Rattle.std.proofs.Common.{◌≡◌, ℕ, zero, suc, ◌+◌, ◌-◌, ◌≤◌, max, ◌↔◌, List, [], ◌∷◌, ◌++◌, length, Ok, Err, Result, sym, refl, ap, ◌∙◌, subst, append_assoc, arith}
+use Rattle.std.proofs.Common.{◌≡◌, ℕ, zero, suc, ◌+◌, ◌≤◌, max, ◌↔◌, List, [], ◌∷◌, ◌++◌, length, Ok, Err, Result, sym, refl, ap, ◌∙◌, subst, append_assoc, arith}
 use native.Mathlib.Nat.{sub-zero}
 use Rattle.std.specs.List.{AllByRecursion as All}
 use Rattle.cells.specs.Calls.{InRange}

@@ -1,4 +1,6 @@
 //! The archive text of a pattern: its faults, a reader, and the verdict on a whole text. The lines are those of `lines`.
+#![tactic(auto)]
+
 mod fault;
 mod reader;
 mod verdict;

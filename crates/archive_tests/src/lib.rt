@@ -1,4 +1,6 @@
 //! Texts with known verdicts, and lines written and read back.
+#![tactic(auto)]
+
 #[cfg(test)]
 mod tests {
     use archive::{

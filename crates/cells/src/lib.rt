@@ -1,4 +1,6 @@
 //! The vocabulary of patterns and stores, and what a heap is: the memory interface below a store.
+#![tactic(auto)]
+
 mod cell;
 mod checks;
 mod content;

@@ -1,4 +1,6 @@
 //! Reads a text from standard input and writes what is in it.
+#![tactic(auto)]
+
 use std::io::{Read, Write};
 
 fn run(rt: &HostRuntime) -> anyhow::Result<()> {

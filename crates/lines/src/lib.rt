@@ -1,4 +1,6 @@
 //! The lines of an archive text: read as fields and values, and written into a lent buffer.
+#![tactic(auto)]
+
 mod cell;
 mod fault;
 mod line;

@@ -1,5 +1,7 @@
 //! Numbering the cells of a pattern, and what holds of it: the order in which a walk from the first cell meets them is
 //! the order of the lines in the archive text. There is no code here; each function stands for the theorem in its contract.
+#![tactic(auto)]
+
 ghost use Rattle.numbering.specs.Laws.{LinesComeBack, WalkIsAccepted, WalkIsSamePattern, WalkNumbersEach};
 
 // A walk gives one number to each cell of the pattern and to no other.

@@ -1,5 +1,5 @@
 -- A planes heap as a whole: what each call does to its cells, to its soundness and to the memory beyond.
-use Rattle.std.proofs.Common.{◌≡◌, ℕ, ◌*◌, ◌<◌, ◌≤◌, min, true, false, List, ◌++◌, length, drop, set, replicate, None, Option, sym, refl, ap, ◌∙◌, subst, inl, inr, arith, MutBor}
+use Rattle.std.proofs.Common.{◌≡◌, ℕ, ◌*◌, ◌<◌, min, true, false, List, length, drop, set, None, Option, sym, refl, ap, ◌∙◌, subst, inl, inr, arith, MutBor}
 use Rattle.std.proofs.lemmas.List.{length-set}
 use Rattle.std.proofs.lemmas.Bool.{cases_eq}
 use Rattle.cells.specs.declared.content.Content.{Content}
@@ -8,7 +8,6 @@ use Rattle.cells.specs.declared.cell.Tag.{Tag}
 use Rattle.cells.specs.declared.cell.MarkColour.{MarkColour}
 use Rattle.cells.specs.declared.cell.SweepColour.{SweepColour}
 use Rattle.cells.specs.declared.cell.Colour.TheVariants.{Mark, Sweep}
-use Rattle.cells.specs.declared.fault.HeapFault.{HeapFault}
 use Rattle.cells.specs.Calls.{Lawful, exchange_cells, exchange_fault, exchange_unless, first_grey, paint_cells, write_cells}
 use Rattle.cells.specs.Cells.{new_cells}
 use Rattle.cells.specs.Fault.{index_fault, write_fault}
@@ -19,7 +18,7 @@ use Rattle.cells.proofs.Refused.{Accepted, accepted_below, none_found, write_bel
 use Rattle.cells.proofs.Seek.{none_grey}
 use Rattle.planes.specs.declared.heap.PlanesHeap.{PlanesHeap}
 use Rattle.planes.specs.declared.links.LinkRecord.{LinkRecord}
-use Rattle.planes.specs.Bits.{Cleared, FirstSet, SameBits, bit_at, put_bit}
+use Rattle.planes.specs.Bits.{FirstSet, SameBits, bit_at, put_bit}
 use Rattle.planes.specs.Planes.{Room, is_mark_black, is_sweep_black, new_links, planes_cells, planes_front, planes_size}
 use Rattle.planes.specs.Whole.{MadeIn, MarkPainted, SameBeyond, SoundPlanes, SweepPainted, cells_of_planes, size_of_planes, swapped_planes}
 use Rattle.planes.proofs.Bitwise.{put_length, put_other, put_rest, put_same}

@@ -1,5 +1,5 @@
 -- The first n cells of four pieces of memory: what a change of a bit or of a record does to them.
-use Rattle.std.proofs.Common.{◌≡◌, ℕ, ◌*◌, ◌<◌, ◌≤◌, Bool, true, false, cond, ltb, ◌≢◌, List, ◌++◌, length, get_or, drop, set, replicate, Some, None, Ok, Option, Result, sym, refl, ap, ◌∙◌, inl, inr, arith}
+use Rattle.std.proofs.Common.{◌≡◌, ℕ, ◌*◌, ◌<◌, ◌≤◌, Bool, true, false, cond, ltb, ◌≢◌, List, ◌++◌, length, get_or, drop, set, replicate, Some, None, Option, sym, refl, ap, ◌∙◌, inl, inr, arith}
 use mathlib.Core.Path.{fun_ext}
 use Rattle.std.proofs.lemmas.List.{get_or_append_left, get_or-replicate, get_or-set_other, get_or-set_same, length-replicate}
 use Rattle.std.proofs.lemmas.Bool.{cases_eq, cases_lt, cond-false, cond-true, le-ltb, lt-ltb}
@@ -12,7 +12,6 @@ use Rattle.cells.specs.declared.cell.SweepColour.{SweepColour}
 use Rattle.cells.specs.declared.cell.SweepColour.TheVariants as sweep
 use Rattle.cells.specs.declared.cell.Colour.TheVariants.{Mark, Sweep}
 use Rattle.cells.specs.declared.cell.CellRecord.{CellRecord}
-use Rattle.cells.specs.declared.fault.HeapFault.{HeapFault}
 use Rattle.cells.specs.Calls.{exchange_unless, first_grey, paint_cells, paint_unless, write_cells, write_unless}
 use Rattle.cells.specs.Cells.{cells_of, changed_at, new_cells}
 use Rattle.cells.specs.Fault.{index_fault, write_fault}

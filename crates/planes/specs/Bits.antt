@@ -1,5 +1,5 @@
 -- A plane of bits: bit i is bit i mod 8, counted from the lowest, of byte i div 8.
-use Rattle.std.specs.Prelude.{◌≡◌, ℕ, ◌/◌, ◌%◌, ◌^◌, ◌<◌, ◌≤◌, Bool, true, false, List, length, set, Some, None, Option, ◌==◌, bit_or, bit_xor, slice_index, slice_set}
+use Rattle.std.specs.Prelude.{◌≡◌, ℕ, ◌/◌, ◌%◌, ◌^◌, ◌<◌, ◌≤◌, Bool, true, false, List, length, Some, None, Option, ◌==◌, bit_or, bit_xor, slice_index, slice_set}
 
 -- bit k of a number, 0 or 1
 abbrev pub bit_of : ℕ → ℕ → ℕ

@@ -1,4 +1,6 @@
 //! The planes heap: lent records for joint, contents and tag, and the colours in three lent planes of bits.
+#![tactic(auto)]
+
 mod bits;
 mod heap;
 mod links;

@@ -1,4 +1,6 @@
 //! What is in a pattern, counted and told as lines of text.
+#![tactic(auto)]
+
 mod counting;
 mod tally;
 mod tell;

@@ -1,4 +1,6 @@
 //! Shading and blackening, over any heap: known only by its meaning, and proved once for all heaps.
+#![tactic(auto)]
+
 ghost use Rattle.std.specs.Prelude.{◌≡◌};
 ghost use Rattle.cells.specs.Calls.{paint_answer};
 ghost use Rattle.shading.specs.Shading.{blackened_cells, is_white, shaded_cells};

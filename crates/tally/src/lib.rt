@@ -1,4 +1,6 @@
 //! The grey tally: a layer over any heap that counts its grey cells.
+#![tactic(auto)]
+
 mod count;
 mod layer;
 

@@ -1,4 +1,6 @@
 //! Bytes in and bytes out: a text cut at a byte, room in a lent buffer, and numbers of one to five digits.
+#![tactic(auto)]
+
 mod buffer;
 mod cut;
 mod number;

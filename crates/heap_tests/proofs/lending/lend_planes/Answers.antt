@@ -1,4 +1,4 @@
-use Rattle.std.proofs.Common.{◌≡◌, length, sym, subst}
+use Rattle.std.proofs.Common.{length, sym, subst}
 use Rattle.planes.specs.Bits.{SameBits}
 use Rattle.planes.specs.Planes.{planes_size}
 use Rattle.heap_tests.proofs.Lent.{grey_back, mark_back, sweep_back}

@@ -1,4 +1,4 @@
-use Rattle.std.proofs.Common.{◌≡◌, sym, ap, ◌∙◌, arith}
+use Rattle.std.proofs.Common.{sym, ap, ◌∙◌, arith}
 use Rattle.cells.specs.Front.{front_cells}
 use Rattle.cells.specs.Record.{is_grey}
 use Rattle.cells.proofs.Memory.{front_at_lem}

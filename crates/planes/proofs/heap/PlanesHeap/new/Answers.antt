@@ -1,4 +1,4 @@
-use Rattle.std.proofs.Common.{◌≡◌, ◌++◌, length, drop, replicate, sym, refl, ap, ◌∙◌, subst}
+use Rattle.std.proofs.Common.{◌++◌, length, drop, replicate, refl, ap, ◌∙◌, subst}
 use denote.Ref.{at_last}
 use Rattle.planes.specs.Bits.{Cleared}
 use Rattle.planes.specs.Planes.{Room, new_links}

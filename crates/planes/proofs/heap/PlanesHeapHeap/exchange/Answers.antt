@@ -1,4 +1,4 @@
-use Rattle.std.proofs.Common.{◌≡◌, sym, ap, ◌∙◌, subst}
+use Rattle.std.proofs.Common.{sym, ap, ◌∙◌, subst}
 use Rattle.cells.specs.Calls.{exchange_fault}
 use Rattle.cells.specs.Fault.{answer, grey_fault, unless_fault}
 use Rattle.cells.proofs.Refused.{accepted_none}

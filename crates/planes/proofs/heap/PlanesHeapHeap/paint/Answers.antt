@@ -1,4 +1,4 @@
-use Rattle.std.proofs.Common.{◌≡◌, sym, ap, ◌∙◌, subst}
+use Rattle.std.proofs.Common.{sym, ap, ◌∙◌, subst}
 use Rattle.cells.specs.Calls.{paint_cells}
 use Rattle.cells.specs.Fault.{index_fault}
 use Rattle.cells.proofs.Refused.{Accepted}

@@ -1,4 +1,4 @@
-use Rattle.std.proofs.Common.{◌≡◌, ◌++◌, length, drop, replicate, sym, refl, ap, ◌∙◌, subst, arith}
+use Rattle.std.proofs.Common.{◌++◌, length, drop, replicate, sym, refl, ap, ◌∙◌, subst, arith}
 use Rattle.cells.specs.Calls.{Lawful}
 use Rattle.cells.specs.Front.{cells_in, size_for}
 use Rattle.cells.specs.Record.{new_cell}

@@ -1,7 +1,7 @@
-use Rattle.std.proofs.Common.{◌++◌, map, length, take, drop, sym, ap, ◌∙◌, subst}
+use Rattle.std.proofs.Common.{◌++◌, map, take, drop, sym, ap, ◌∙◌, subst}
 use Rattle.cells.specs.Calls.{Lawful, exchange_fault, exchange_unless}
 use Rattle.cells.specs.Fault.{answer, grey_fault}
-use Rattle.cells.specs.Front.{cells_in, size_for}
+use Rattle.cells.specs.Front.{cells_in}
 use Rattle.cells.specs.Record.{exchanged_cell}
 use Rattle.cells.proofs.Kept.{exchange_lawful}
 use Rattle.cells.proofs.Memory.{exchange_in}
