@@ -1,10 +1,10 @@
 -- What a refusal tells: its number in the table of refusals and, where a text was to be loaded, layer and line.
 use Rattle.std.specs.Prelude.{ℕ}
-use Rattle.lines.specs.declared.fault.Layer.{Layer}
-use Rattle.lines.specs.declared.fault.Layer.TheVariants.{Store}
 use Rattle.archive.specs.Fault.{file_layer, file_line, file_number}
 use Rattle.model.specs.declared.fault.LoadFault.{LoadFault}
 use Rattle.model.specs.declared.fault.LoadFault.TheVariants.{OfFile, OfStore}
+use Rattle.model.specs.declared.fault.LoadLayer.{LoadLayer}
+use Rattle.model.specs.declared.fault.LoadLayer.TheVariants.{Text, Store}
 use Rattle.model.specs.declared.fault.OpenFault.{OpenFault}
 use Rattle.model.specs.declared.fault.OpenFault.TheVariants.{NoCells, HoldCount}
 use Rattle.model.specs.declared.fault.StoreFault.{StoreFault}
@@ -29,8 +29,8 @@ abbrev pub load_number : LoadFault → ℕ
 load_number (OfFile fault) = file_number fault
 load_number (OfStore fault) = store_number fault
 
-abbrev pub load_layer : LoadFault → Layer
-load_layer (OfFile fault) = file_layer fault
+abbrev pub load_layer : LoadFault → LoadLayer
+load_layer (OfFile fault) = Text (file_layer fault)
 load_layer (OfStore fault) = Store
 
 -- counted from 1; a fault of the store has line 0

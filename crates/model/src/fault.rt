@@ -37,6 +37,13 @@ pub enum StoreFault {
     ShortTable,
 }
 
+// Where a fault was found: in the text, by the reader that is named, or in the store that was to load it.
+#[derive(Clone, Copy, Debug, PartialEq)]
+pub enum LoadLayer {
+    Text(Layer),
+    Store,
+}
+
 // Why a text is not loaded: it is at fault, or the store refuses it.
 #[derive(Clone, Copy, Debug, PartialEq)]
 pub enum LoadFault {
@@ -93,12 +100,12 @@ impl From<StoreFault> for LoadFault {
 
 impl LoadFault {
     // Where the fault was found.
-    pub fn layer(&self) -> Layer
+    pub fn layer(&self) -> LoadLayer
         ensures { result ≡ load_layer self.now }
     {
         match *self {
-            LoadFault::OfFile(fault) => fault.layer(),
-            LoadFault::OfStore(_) => Layer::Store,
+            LoadFault::OfFile(fault) => LoadLayer::Text(fault.layer()),
+            LoadFault::OfStore(_) => LoadLayer::Store,
         }
     }
 

@@ -8,7 +8,7 @@ mod stage;
 
 pub use answer::{Answer, MarkAnswer};
 pub use examples::{first_answers, last_answers, saved_answer, saved_text};
-pub use fault::{LoadFault, OpenFault, StoreFault};
+pub use fault::{LoadFault, LoadLayer, OpenFault, StoreFault};
 pub use laws::{
     collector_leaves_reach, free_list_in_order, heap_refuses_nothing, invariant_is_kept,
     mistakes_lose, reached_is_used, units_contain_turn,
