@@ -8,6 +8,6 @@ returns-in-Ok g c =
     let text = c.args.text.now in
     record {
       after = λ pattern q e suits.
-          c.settle-lines.ensures.after pattern q (lines_in_lem text pattern (place_of c.in-Ok.reader) c.in-Ok.ensures e) (pattern_read text pattern e).numbered.in_range suits;
-      kept = c.settle-lines.ensures.kept;
+          c.settle_lines.ensures.after pattern q (lines_in_lem text pattern (place_of c.in-Ok.reader) c.in-Ok.ensures e) (pattern_read text pattern e).numbered.in_range suits;
+      kept = c.settle_lines.ensures.kept;
     }

@@ -13,4 +13,4 @@ invariant-loop-place g l =
     (g.H.Heap.sound l.initial.heap → g.H.Heap.sound l.heap)
     × ((pattern : Pattern) → g.H.Heap.sound l.initial.heap → lines_left (place_of l.initial.reader) ≡ Ok pattern → All (InRange (length pattern)) (contents pattern)
     → Suits (g.H.Heap.meaning l.initial.heap).size l.places pattern
-    → Underway (g.H.Heap.meaning l.initial.heap) l.sweep-place l.places pattern (g.H.Heap.meaning l.heap) l.place-index (place_of l.reader))
+    → Underway (g.H.Heap.meaning l.initial.heap) l.sweep_place l.places pattern (g.H.Heap.meaning l.heap) l.place-index (place_of l.reader))

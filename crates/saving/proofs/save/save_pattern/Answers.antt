@@ -5,6 +5,6 @@ use Rattle.saving.proofs.save.save_pattern.Goals as goal
 pub returns : goal.returns
 returns g c = λ s given.
     saved (g.H.Heap.meaning c.args.heap.now) c.args.first c.args.numbers.now c.args.order.now (g.H.Heap.lawful c.args.heap.now s) given
-    (tables c.number-cells-count.result c.number-cells-count.new.numbers c.number-cells-count.new.order)
-    c.args.buffer.now c.write-text-length.new.buffer c.write-text-length.result
-    (c.number-cells-count.ensures s) (c.write-text-length.ensures.answer s) (c.write-text-length.ensures.after s)
+    (tables c.number_cells-count.result c.number_cells-count.new.numbers c.number_cells-count.new.order)
+    c.args.buffer.now c.write_text-length.new.buffer c.write_text-length.result
+    (c.number_cells-count.ensures s) (c.write_text-length.ensures.answer s) (c.write_text-length.ensures.after s)

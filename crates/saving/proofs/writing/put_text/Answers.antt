@@ -11,9 +11,9 @@ returns g c = λ s.
     let order = c.args.order.now in
     let buffer = c.args.buffer.now in
     let n = c.args.count in
-    let header = c.put-header-start in
-    let lines = c.put-cells-end in
-    let end = c.put-end in
+    let header = c.put_header-start in
+    let lines = c.put_cells-end in
+    let end = c.put_end in
     subst (λ text. Puts buffer 0 text end.result end.new.buffer) (sym (text_parts cells numbers order n))
     (three_put buffer header.new.buffer lines.new.buffer end.new.buffer header.result lines.result end.result
     (line_text (header_fields n)) (cells_in cells numbers order n) (line_text (end_fields n))
