@@ -11,5 +11,5 @@ returns g c =
     let q = copy_accepted (view g.H.Heap.meaning c.args.self.now) c.args.hold c.args.from h f in
     record {
       answer = λ a. q.0;
-      after = λ a. moved_to g.H.Heap.meaning g.H.Heap.sound c.copy-hold.new.self _ _ (c.copy-hold.ensures a (ltb-true c.args.hold _ (sym h)) (ltb-true c.args.from _ (sym f))) q.1;
+      after = λ a. moved_to g.H.Heap.meaning g.H.Heap.sound c.copy_hold.new.self _ _ (c.copy_hold.ensures a (ltb-true c.args.hold _ (sym h)) (ltb-true c.args.from _ (sym f))) q.1;
     }

@@ -10,5 +10,5 @@ returns g c =
     let q = drop_accepted (view g.H.Heap.meaning c.args.self.now) c.args.hold h in
     record {
       answer = λ a. q.0;
-      after = λ a. moved_to g.H.Heap.meaning g.H.Heap.sound c.set-nothing.new.self _ _ (c.set-nothing.ensures a (ltb-true c.args.hold _ (sym h))) q.1;
+      after = λ a. moved_to g.H.Heap.meaning g.H.Heap.sound c.set_nothing.new.self _ _ (c.set_nothing.ensures a (ltb-true c.args.hold _ (sym h))) q.1;
     }

@@ -10,5 +10,5 @@ returns g c =
     let o = c.if-not-has-2.ensures in
     record {
       answer = λ a. (follow_accepted (view g.H.Heap.meaning c.args.self.now) c.args.hold c.in-Cell.cell c.args.side c.args.into h o (c.in-Cell.ensures a.wide)).0;
-      after = λ a. moved_to g.H.Heap.meaning g.H.Heap.sound c.follow-cell.new.self _ _ (c.follow-cell.ensures a (ltb-true c.args.hold _ (sym h)) (ltb-true c.args.into _ (sym o)) (sym (c.in-Cell.ensures a.wide))) (follow_accepted (view g.H.Heap.meaning c.args.self.now) c.args.hold c.in-Cell.cell c.args.side c.args.into h o (c.in-Cell.ensures a.wide)).1;
+      after = λ a. moved_to g.H.Heap.meaning g.H.Heap.sound c.follow_cell.new.self _ _ (c.follow_cell.ensures a (ltb-true c.args.hold _ (sym h)) (ltb-true c.args.into _ (sym o)) (sym (c.in-Cell.ensures a.wide))) (follow_accepted (view g.H.Heap.meaning c.args.self.now) c.args.hold c.in-Cell.cell c.args.side c.args.into h o (c.in-Cell.ensures a.wide)).1;
     }

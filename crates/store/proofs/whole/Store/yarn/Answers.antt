@@ -11,5 +11,5 @@ returns g c =
     let q = yarn_accepted (view g.H.Heap.meaning c.args.self.now) c.args.hold c.args.yarn h y in
     record {
       answer = λ a. q.0;
-      after = λ a. moved_to g.H.Heap.meaning g.H.Heap.sound c.set-yarn.new.self _ _ (c.set-yarn.ensures a (ltb-true c.args.hold _ (sym h)) y) q.1;
+      after = λ a. moved_to g.H.Heap.meaning g.H.Heap.sound c.set_yarn.new.self _ _ (c.set_yarn.ensures a (ltb-true c.args.hold _ (sym h)) y) q.1;
     }
