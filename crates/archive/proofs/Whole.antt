@@ -1,7 +1,7 @@
 -- A text is read as a pattern exactly if it is that pattern's written text and the pattern is numbered by the rule.
 use Rattle.std.proofs.Common.{◌≡◌, ℕ, zero, suc, ◌+◌, ◌≤◌, max, ◌↔◌, List, [], ◌∷◌, ◌++◌, length, Ok, Err, Result, sym, refl, ap, ◌∙◌, subst, append_assoc, arith}
 use native.Mathlib.Nat.{sub-zero}
-use Rattle.std.specs.List.{AllByRecursion as All}
+use Rattle.std.specs.List.{AllByRecursion}
 use Rattle.cells.specs.Calls.{InRange}
 use Rattle.lines.specs.declared.cell.PatternCell.{PatternCell}
 use Rattle.archive.specs.declared.fault.FileFault.{FileFault}
@@ -16,7 +16,7 @@ use Rattle.archive.proofs.Outcomes.{and_then_ok, ok_same}
 pub record CellsRead (p : Place) (cs : Pattern) (q : Place) : Type 0 where
   pub text_is : p.rest ≡ cells_text cs ++ q.rest
   pub count_is : q.count ≡ p.count
-  pub in_range : All (InRange p.count) (contents cs)
+  pub in_range : AllByRecursion (InRange p.count) (contents cs)
   pub follows : Follows p.greatest (named (contents cs))
   pub met : Met p.next p.greatest cs
 
@@ -36,7 +36,7 @@ line_in_front p c m cs q first more =
     record {
       text_is = first.text_is ∙ ap (λ t. line_text (cell_fields c) ++ t) more.text_is ∙ sym (append_assoc (line_text (cell_fields c)) (cells_text cs) q.rest);
       count_is = more.count_is ∙ first.count_is;
-      in_range = (first.left_in, (first.right_in, subst (λ n. All (InRange n) (contents cs)) first.count_is more.in_range));
+      in_range = (first.left_in, (first.right_in, subst (λ n. AllByRecursion (InRange n) (contents cs)) first.count_is more.in_range));
       follows =
           follows_content p.greatest c.left on.middle (c.right ∷ contents cs) on.left_goes
           (follows_content on.middle c.right m.greatest (contents cs) on.right_goes more.follows);
@@ -63,7 +63,7 @@ pub record CellsBack (p : Place) (cs : Pattern) (rest : List ℕ) : Type 0 where
   pub rest_is : end.rest ≡ rest
   pub count_is : end.count ≡ p.count
 
-cells_written : (cs : Pattern) (p : Place) (rest : List ℕ) → p.count ≤ 16384 → p.rest ≡ cells_text cs ++ rest → All (InRange p.count) (contents cs) → Follows p.greatest (named (contents cs)) → Met p.next p.greatest cs → CellsBack p cs rest
+cells_written : (cs : Pattern) (p : Place) (rest : List ℕ) → p.count ≤ 16384 → p.rest ≡ cells_text cs ++ rest → AllByRecursion (InRange p.count) (contents cs) → Follows p.greatest (named (contents cs)) → Met p.next p.greatest cs → CellsBack p cs rest
 cells_written [] p rest few text range follows met = record { end = p; read = refl; rest_is = text; count_is = refl }
 cells_written (c ∷ cs) p rest few text range follows met =
     let left = content_follows p.greatest c.left (c.right ∷ contents cs) follows in
@@ -100,7 +100,7 @@ whole_read text s cs q head long cells last =
       numbered = record {
         some = omega (arith, head.some);
         few = omega (arith, head.few);
-        in_range = subst (λ k. All (InRange k) (contents cs)) n cells.in_range;
+        in_range = subst (λ k. AllByRecursion (InRange k) (contents cs)) n cells.in_range;
         met_before = met_named cs follows met;
         next_number = λ before k after e. omega (arith, each_follows 0 (named (contents cs)) follows before k after e);
       };

@@ -1,6 +1,6 @@
 -- A pattern, its written text, and the rule that its numbering obeys.
 use Rattle.std.specs.Prelude.{◌≡◌, ℕ, ◌+◌, ◌<◌, ◌≤◌, max, Bool, true, false, ◌||◌, List, [], ◌∷◌, ◌++◌, length, take, ◌==◌}
-use Rattle.std.specs.List.{AllByRecursion as All}
+use Rattle.std.specs.List.{AllByRecursion}
 use Rattle.cells.specs.declared.content.Content.{Content}
 use Rattle.cells.specs.declared.content.Content.TheVariants.{Nothing, Yarn, Cell}
 use Rattle.cells.specs.Calls.{InRange}
@@ -52,7 +52,7 @@ among k (x ∷ xs) = k == x || among k xs
 pub record Numbered (p : Pattern) : Type 0 where
   pub some : 1 ≤ length p
   pub few : length p ≤ 16384
-  pub in_range : All (InRange (length p)) (contents p)
+  pub in_range : AllByRecursion (InRange (length p)) (contents p)
   pub met_before : (i : ℕ) → 1 ≤ i → i < length p → among i (named (contents (take i p))) ≡ true
   pub next_number : (before : List ℕ) (k : ℕ) (after : List ℕ) → named (contents p) ≡ before ++ (k ∷ after) → k ≤ greatest before + 1
 

@@ -1,7 +1,7 @@
 -- The second pass, line by line.
 use Rattle.std.proofs.Common.{◌≡◌, ℕ, ◌+◌, ◌<◌, ◌≤◌, Bool, false, cond, ◌||◌, eqb, List, [], ◌∷◌, ◌++◌, length, get_or, take, drop, Some, None, Ok, sym, refl, ap, ◌∙◌, inl, arith}
 use mathlib.Core.Path.{fun_ext}
-use Rattle.std.specs.List.{AllByRecursion as All}
+use Rattle.std.specs.List.{AllByRecursion}
 use Rattle.std.proofs.lemmas.List.{drop_more, get_or-take, length-drop, length-take-le, take_all, take_more}
 use Rattle.std.proofs.lemmas.Bool.{cond-true, ne_eqb}
 use Rattle.cells.specs.declared.cell.MarkColour.TheVariants.{Black}
@@ -134,7 +134,7 @@ module _ (before : Cells) (s : ℕ) (places : List ℕ) (pattern : Pattern) wher
     length_names = length-take-le (length pattern) places suits.room
 
     -- a file cell whose contents are in range is made in its cell
-    line_made : (k : ℕ) → k < length pattern → All (InRange (length pattern)) (contents pattern)
+    line_made : (k : ℕ) → k < length pattern → AllByRecursion (InRange (length pattern)) (contents pattern)
         → planted_cells (so_far k) s (get_or places k 0) (renamed_line (cell_of places) (get_or pattern k no_line)) ≡ so_far (k + 1)
     line_made k h range =
         let line = get_or pattern k no_line in
@@ -149,7 +149,7 @@ module _ (before : Cells) (s : ℕ) (places : List ℕ) (pattern : Pattern) wher
         (renamed_in before.size names line.left suits.inside left) (renamed_in before.size names line.right suits.inside right)
 
     -- one turn: the reader gives a line, which is planted in the next place
-    pub underway_more : (cells after : Cells) (k : ℕ) (p q : Place) (line new : PatternCell) (cell : ℕ) → All (InRange (length pattern)) (contents pattern)
+    pub underway_more : (cells after : Cells) (k : ℕ) (p q : Place) (line new : PatternCell) (cell : ℕ) → AllByRecursion (InRange (length pattern)) (contents pattern)
         → Some line ≡ line_given (next_cell p) → q ≡ place_after p → new ≡ renamed_line (cell_of places) line → cell ≡ get_or places k 0 → after ≡ planted_cells cells s cell new
         → Underway cells k p → Underway after (k + 1) q
     underway_more cells after k p q line new cell range given moved named here planted u =

@@ -1,5 +1,7 @@
 //! The two passes of a load, over any heap. The first reads which free cells will be taken and changes none of them; the
 //! second makes the pattern in those cells. A line may name cells of later lines, so the whole table stands before the second.
+#![tactic(auto)]
+
 ghost use Rattle.loading.specs.Fit.{PassesFit};
 
 mod gathering;

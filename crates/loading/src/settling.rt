@@ -1,6 +1,6 @@
 //! The second pass: the lines of a text become the cells that a table names.
 ghost use Rattle.std.specs.Prelude.{◌≡◌, length, take, Ok};
-ghost use Rattle.std.specs.List.{AllByRecursion as All};
+ghost use Rattle.std.specs.List.{AllByRecursion};
 ghost use Rattle.cells.specs.Calls.{InRange};
 ghost use Rattle.archive.specs.Pattern.{Pattern, contents};
 ghost use Rattle.archive.specs.Reading.{next_cell, pattern_in, place_after, place_of};
@@ -77,7 +77,7 @@ fn next_line<'a>(reader: &mut Reader<'a>) -> Option<PatternCell>
 
 // Makes the cells of the lines that the reader has still to give, in the places that the table names, first to first.
 fn settle_lines<'a, H: Heap>(heap: &mut H, mut reader: Reader<'a>, places: &[u16], sweep_place: u32)
-    ensures after { (pattern : Pattern) → H.sound heap.old → lines_left (place_of reader.entry) ≡ Ok pattern → All (InRange (length pattern)) (contents pattern) → Suits (H.meaning heap.old).size places.now pattern → H.meaning heap.new ≡ settled_cells (H.meaning heap.old) sweep_place (take (length pattern) places.now) pattern }
+    ensures after { (pattern : Pattern) → H.sound heap.old → lines_left (place_of reader.entry) ≡ Ok pattern → AllByRecursion (InRange (length pattern)) (contents pattern) → Suits (H.meaning heap.old).size places.now pattern → H.meaning heap.new ≡ settled_cells (H.meaning heap.old) sweep_place (take (length pattern) places.now) pattern }
     ensures kept { H.sound heap.old → H.sound heap.new }
 {
     for place in places {

@@ -1,22 +1,21 @@
 -- The bounds: K units contain a turn, and 3 × K units without a free cell show that every cell is reached.
-use Rattle.std.proofs.Common.{◌≡◌, ℕ, zero, suc, ◌+◌, ◌-◌, ◌*◌, ◌<◌, ◌≤◌, Bool, true, false, cond, ◌||◌, ltb, ◌⊎◌, ◌↔◌, List, [], ◌∷◌, ◌++◌, length, Some, None, Option, sym, refl, ap, ◌∙◌, inl, inr, arith}
-use Rattle.std.proofs.lemmas.Bool.{both_ways, cases_Bool, cases_eq, cases_lt, cond-true}
+use Rattle.std.proofs.Common.{◌≡◌, ℕ, zero, suc, ◌+◌, ◌-◌, ◌*◌, ◌<◌, ◌≤◌, Bool, true, false, cond, ltb, ◌↔◌, List, [], ◌∷◌, ◌++◌, length, Some, None, Option, sym, refl, ap, ◌∙◌, inl, inr, arith}
+use Rattle.std.proofs.lemmas.Bool.{both_ways, cases_eq, cases_lt, cond-true}
 use Rattle.cells.specs.declared.content.Content.{Content}
-use Rattle.cells.specs.declared.cell.Tag.TheVariants.{Free, Used}
+use Rattle.cells.specs.declared.cell.Tag.TheVariants.{Used}
 use Rattle.cells.specs.declared.cell.MarkColour.{MarkColour}
 use Rattle.cells.specs.declared.cell.MarkColour.TheVariants as mark
 use Rattle.cells.specs.declared.cell.SweepColour.TheVariants as sweep
 use Rattle.cells.specs.Cells.{changed_at}
 use Rattle.cells.specs.Record.{as_sweep, is_grey}
 use Rattle.cells.proofs.Changed.{changed_other, changed_same}
-use Rattle.numbering.specs.Lists.{In}
 use Rattle.shading.specs.Shading.{shaded}
 use Rattle.model.specs.declared.stage.Stage.{Stage}
 use Rattle.model.specs.declared.stage.Stage.TheVariants.{AtHold, AtCell, Ended}
-use Rattle.model.specs.Collector.{after_mark, after_sweep, after_turn, after_unit, after_units, can_turn, mark_and_sweep, mark_at, mark_found, next_grey, next_stage, pass_by, put_back, span, sweep_answer, turned}
+use Rattle.model.specs.Collector.{after_mark, after_unit, after_units, can_turn, mark_and_sweep, mark_at, mark_found, next_grey, next_stage, span, sweep_answer, turned}
 use Rattle.model.specs.FreeList.{none_free}
 use Rattle.model.specs.History.{Event.marks as a_mark, Event.sweeps as a_sweep, Event.turns as a_turn, at, units_moments}
-use Rattle.model.specs.Invariant.{Dark, Invariant, IsBlack, Kept}
+use Rattle.model.specs.Invariant.{Invariant, IsBlack}
 use Rattle.model.specs.Reach.{Full, Reached}
 use Rattle.model.specs.Runs.{has_turn}
 use Rattle.model.specs.State.{State, size_of}
@@ -24,11 +23,11 @@ use Rattle.model.specs.Take.{Pace, hunt_for, units_for, worked}
 use Rattle.model.proofs.Basics.{free_or_used, not_both_colours, not_both_tags, white_or_black}
 use Rattle.model.proofs.Moves.{Rolled, Rolled.rolls, Rolled.rests, Swept, Swept.put, Swept.past, Swept.idle, as_sweep_black, cannot_turn, half_keeps, next_found, sweeps_how, turn_keeps, turns_how, unit_keeps}
 use Rattle.model.proofs.Phases.{Condemned, pass_touch}
-use Rattle.model.proofs.Reached.{SameReach, half_reach, mark_reach, reach_then, rolled_reach, swept_reach}
+use Rattle.model.proofs.Reached.{SameReach, half_reach, reach_then, rolled_reach}
 use Rattle.model.proofs.Runs.{reached_kept, turned_touched}
 use Rattle.model.proofs.Shade.{black_before, black_dark, shaded_black}
 use Rattle.model.proofs.Steps.{mark_quiet}
-use Rattle.model.proofs.Touched.{Quiet, Touched, Touched.by_mark, reached_touched}
+use Rattle.model.proofs.Touched.{Quiet, Touched, Touched.by_mark}
 
 -- Marks left until marking has ended: at a cell, one for each cell that is not black and one more that ends it; at a hold,
 -- one for each hold left besides.

@@ -1,5 +1,5 @@
 -- The worked examples: computed.
-use Rattle.std.proofs.Common.{◌≡◌, [], ◌∷◌, refl}
+use Rattle.std.proofs.Common.{◌≡◌, refl}
 use Rattle.std.specs.Fmt.{digits}
 use Rattle.cells.specs.Calls.{seek_grey}
 use Rattle.model.specs.Calls.{answer, answers, after_all}

@@ -1,5 +1,5 @@
 -- The laws of the free list. No other file speaks of what a free cell contains.
-use Rattle.std.proofs.Common.{◌≡◌, ℕ, zero, suc, ◌+◌, ◌<◌, ◌≤◌, Bool, true, false, ltb, ◌⊎◌, List, [], ◌∷◌, ◌++◌, sym, refl, ◌∙◌, inl, inr, arith}
+use Rattle.std.proofs.Common.{◌≡◌, ℕ, zero, suc, ◌+◌, ◌<◌, Bool, true, false, ltb, List, [], ◌∷◌, ◌++◌, sym, refl, ◌∙◌, inl, inr, arith}
 use Rattle.std.proofs.lemmas.Bool.{both_ways, cases_Bool, cond-true, cond-false, le-ltb, lt-ltb}
 use Rattle.cells.specs.declared.content.Content.{Content}
 use Rattle.cells.specs.declared.content.Content.TheVariants.{Nothing, Cell}
@@ -13,7 +13,7 @@ use Rattle.numbering.specs.Same.{Names}
 use Rattle.numbering.proofs.Lists.{count_in, count_once, in_append, in_count, in_left, in_push, in_right, once_apart, once_push, once_right}
 use Rattle.model.specs.FreeList.{IsFreeList, Linked, linked_behind, put_back_cells}
 use Rattle.model.specs.State.{opened_cells}
-use Rattle.model.specs.Take.{given_cells, new_sweep}
+use Rattle.model.specs.Take.{given_cells}
 use Rattle.model.proofs.Basics.{at_new, at_old, not_both_tags}
 
 -- Links.

@@ -1,7 +1,6 @@
 -- New cells: one lemma for the one cell of a take and for all cells of a load.
-use Rattle.std.proofs.Common.{◌≡◌, ℕ, ◌<◌, ◌≤◌, Bool, true, false, leb, ◌⊎◌, List, ◌++◌, sym, refl, ◌∙◌, inl, inr, arith}
+use Rattle.std.proofs.Common.{◌≡◌, ℕ, ◌<◌, Bool, true, false, leb, ◌⊎◌, List, ◌++◌, sym, ◌∙◌, inl, inr}
 use Rattle.std.proofs.lemmas.Bool.{cases_Bool, cond-false, cond-true, leb-false, lt-leb}
-use Rattle.cells.specs.declared.content.Content.{Content}
 use Rattle.cells.specs.declared.content.Content.TheVariants.{Cell}
 use Rattle.cells.specs.declared.cell.Tag.TheVariants.{Free, Used}
 use Rattle.cells.specs.declared.cell.MarkColour.TheVariants as mark
@@ -15,7 +14,7 @@ use Rattle.numbering.proofs.Lists.{in_left}
 use Rattle.model.specs.FreeList.{IsFreeList}
 use Rattle.model.specs.Invariant.{Dark, Invariant, IsBlack, Kept}
 use Rattle.model.specs.State.{State, size_of}
-use Rattle.model.specs.Take.{give, given_cells, new_sweep, where_new}
+use Rattle.model.specs.Take.{give, given_cells, new_sweep}
 use Rattle.model.proofs.Basics.{at_new, at_old, by_new, not_both_tags}
 use Rattle.model.proofs.FreeList.{free_given}
 

@@ -2,8 +2,8 @@
 use Rattle.std.proofs.Common.{◌≡◌, ℕ, zero, suc, ◌*◌, ◌<◌, ◌≤◌, Bool, true, false, cond, eqb, leb, ◌⊎◌, ◌↔◌, List, [], ◌∷◌, ◌++◌, length, get_or, Ok, Err, Result, sym, refl, ap, ◌∙◌, inl, inr, arith}
 use lib.ListN as list
 use Rattle.std.proofs.lemmas.List.{length-take-le, take-append-drop}
-use Rattle.std.proofs.lemmas.Bool.{cases_Bool, leb-true, ltb-true}
-use Rattle.std.specs.List.{AllByRecursion as All}
+use Rattle.std.proofs.lemmas.Bool.{leb-true, ltb-true}
+use Rattle.std.specs.List.{AllByRecursion}
 use Rattle.archive.specs.Pattern.{Pattern, contents}
 use Rattle.archive.specs.Reading.{and_then, pattern_in, unless}
 use Rattle.archive.proofs.Outcomes.{and_then_ok, ok_same, unless_ok}
@@ -11,29 +11,27 @@ use Rattle.archive.proofs.Whole.{pattern_read}
 use Rattle.cells.specs.declared.content.Content.{Content}
 use Rattle.cells.specs.declared.content.Content.TheVariants.{Nothing, Yarn, Cell}
 use Rattle.cells.specs.declared.content.Joint.{Joint}
-use Rattle.cells.specs.declared.content.Joint.TheVariants as Joint
 use Rattle.cells.specs.declared.cell.Side.{Side}
 use Rattle.cells.specs.declared.cell.Side.TheVariants.{Left, Right}
-use Rattle.cells.specs.declared.cell.Tag.TheVariants.{Used}
 use Rattle.cells.specs.Calls.{InRange}
 use Rattle.numbering.specs.Same.{no_line}
 use Rattle.model.specs.declared.fault.LoadFault.{LoadFault}
-use Rattle.model.specs.declared.fault.LoadFault.TheVariants.{OfFile, OfStore}
+use Rattle.model.specs.declared.fault.LoadFault.TheVariants.{OfStore}
 use Rattle.model.specs.declared.fault.StoreFault.{StoreFault}
-use Rattle.model.specs.declared.fault.StoreFault.TheVariants.{NoHold, NoJoint, NoCell, YarnRange, FewCells, ShortTable}
+use Rattle.model.specs.declared.fault.StoreFault.TheVariants.{NoHold, NoJoint, YarnRange, FewCells, ShortTable}
 use Rattle.model.specs.Calls.{Call, Call.yarn, Call.drop, Call.copy, Call.follow, Call.tie, Call.take, Call.load, Call.save, Call.mark, Call.sweep, Call.turn, after, after_all, answer}
 use Rattle.model.specs.Collector.{after_mark, after_turn, after_unit, after_units, can_turn, mark_and_sweep, span, turned}
 use Rattle.model.specs.FreeList.{none_free}
 use Rattle.model.specs.Hand.{cell_beside, content_at, copy_answer, drop_answer, held_cell, if_ok, is_hold, move_into, tie_to, yarn_answer}
-use Rattle.model.specs.History.{Event, Event.gives, Event.moves, Event.turns, Moment, accepted_moments, at, deeds, gift_moments, history, hunt_moments, moments, take_moments, turn_moments, unit_moments, units_moments, worked_moments}
+use Rattle.model.specs.History.{Event, Event.gives, Event.moves, Event.turns, accepted_moments, at, deeds, gift_moments, history, hunt_moments, moments, take_moments, turn_moments, unit_moments, units_moments, worked_moments}
 use Rattle.model.specs.Invariant.{Invariant}
-use Rattle.model.specs.Load.{load_answer, load_into, load_pattern, text_pattern}
+use Rattle.model.specs.Load.{load_into, load_pattern, text_pattern}
 use Rattle.model.specs.Reach.{Full, Holds}
 use Rattle.model.specs.Runs.{AllFullOnly, FullOnly, Judged, RunLaws, SaysNoCell, TagsTell}
 use Rattle.model.specs.State.{State, opened, size_of, with_hold}
-use Rattle.model.specs.Take.{Pace, front_answer, give_one, hunt_for, joint_of, take_front, take_joint, units_for, units_run, worked}
+use Rattle.model.specs.Take.{Pace, front_answer, hunt_for, joint_of, take_front, take_joint, units_for, units_run, worked}
 use Rattle.model.proofs.Basics.{not_both_tags}
-use Rattle.model.proofs.Bound.{NoneFree, exactly_full}
+use Rattle.model.proofs.Bound.{exactly_full}
 use Rattle.model.proofs.Moves.{can_turn_parts, unit_keeps}
 use Rattle.model.proofs.Opened.{opened_keeps}
 use Rattle.model.proofs.Reached.{unit_reach}
@@ -180,7 +178,7 @@ take_run s h byte a b pace v = pick (take_joint s h byte a b) refl
 
 -- Load.
 
-contents_range : (n : ℕ) (p : Pattern) → All (InRange n) (contents p) → (k : ℕ) → InRange n (get_or p k no_line).left × InRange n (get_or p k no_line).right
+contents_range : (n : ℕ) (p : Pattern) → AllByRecursion (InRange n) (contents p) → (k : ℕ) → InRange n (get_or p k no_line).left × InRange n (get_or p k no_line).right
 contents_range n [] r k = (tt, tt)
 contents_range n (c ∷ cs) r zero = (r.0, r.1.0)
 contents_range n (c ∷ cs) r (suc k) = contents_range n cs r.1.1 k

@@ -1,5 +1,5 @@
 -- The three mistakes lose a held cell: computed.
-use Rattle.std.proofs.Common.{◌≡◌, ℕ, refl, inl, lit<}
+use Rattle.std.proofs.Common.{refl, inl, lit<}
 use Rattle.cells.specs.Calls.{seek_grey}
 use Rattle.model.specs.Mistakes.{Loses, MistakesLose, lost_ahead_of_sweeper, lost_below_search, lost_by_copy, lost_by_follow}
 use Rattle.model.specs.Reach.{Reached.held, Reached.through}

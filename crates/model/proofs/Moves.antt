@@ -1,8 +1,8 @@
 -- The invariant is kept by each small move of which the calls are made.
-use Rattle.std.proofs.Common.{◌≡◌, ℕ, suc, ◌<◌, ◌≤◌, Bool, true, false, cond, ◌&&◌, eqb, ltb, ◌⊎◌, List, [], ◌∷◌, ◌++◌, Some, None, Option, sym, refl, ◌∙◌, inl, inr, arith}
+use Rattle.std.proofs.Common.{◌≡◌, ℕ, suc, ◌<◌, ◌≤◌, Bool, true, false, cond, eqb, ltb, ◌⊎◌, List, Some, None, Option, sym, refl, ◌∙◌, inl, inr, arith}
 use Rattle.std.proofs.lemmas.Bool.{and_cases, and_parts, cases_eq, eqb-false, eqb-true, ltb-false, ltb-true}
 use Rattle.cells.specs.declared.content.Content.{Content}
-use Rattle.cells.specs.declared.content.Content.TheVariants.{Nothing, Yarn, Cell}
+use Rattle.cells.specs.declared.content.Content.TheVariants.{Nothing, Cell}
 use Rattle.cells.specs.declared.cell.Side.{Side}
 use Rattle.cells.specs.declared.cell.Side.TheVariants.{Left, Right}
 use Rattle.cells.specs.declared.cell.Tag.{Tag}
@@ -14,20 +14,20 @@ use Rattle.cells.specs.declared.cell.SweepColour.TheVariants as sweep
 use Rattle.cells.specs.Calls.{InRange, first_grey}
 use Rattle.cells.specs.Cells.{Cells, changed_at}
 use Rattle.cells.specs.Record.{as_mark, as_sweep, is_grey}
-use Rattle.cells.proofs.Changed.{changed_by, changed_from, changed_other, changed_same}
+use Rattle.cells.proofs.Changed.{changed_by, changed_from, changed_other}
 use Rattle.cells.proofs.Seek.{found_grey, none_grey}
 use Rattle.numbering.specs.Same.{Names}
 use Rattle.shading.specs.Shading.{shaded, with_marks}
 use Rattle.model.specs.declared.stage.Stage.{Stage}
 use Rattle.model.specs.declared.stage.Stage.TheVariants.{AtHold, AtCell, Ended}
 use Rattle.model.specs.Collector.{after_mark, after_sweep, after_turn, after_unit, blacken, can_turn, has_ended, mark_and_sweep, mark_at, mark_found, next_grey, next_stage, or_else_found, pass_by, put_back, puts_back, shade, sweep_answer, sweeps_on, turned, used_tag, white_sweep}
-use Rattle.model.specs.FreeList.{IsFreeList, put_back_cells}
+use Rattle.model.specs.FreeList.{IsFreeList}
 use Rattle.model.specs.Hand.{tied_cells}
 use Rattle.model.specs.Invariant.{Dark, Invariant, IsBlack, Kept, visited_holds}
 use Rattle.model.specs.Reach.{Holds}
 use Rattle.model.specs.State.{State, size_of, with_cells, with_hold, with_mark_colours, with_stage}
-use Rattle.model.proofs.Basics.{not_both_colours, white_or_black}
-use Rattle.model.proofs.FreeList.{free_put_back, free_stays, left_in_range_lem, named_after, named_before}
+use Rattle.model.proofs.Basics.{not_both_colours}
+use Rattle.model.proofs.FreeList.{free_put_back, free_stays, left_in_range_lem, named_before}
 use Rattle.model.proofs.Shade.{black_before, black_dark, shaded_black, shaded_from, shaded_is, shaded_keeps}
 
 -- Other colours leave the free list as it is.

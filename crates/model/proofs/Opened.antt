@@ -1,11 +1,10 @@
 -- The invariant holds of a new store.
-use Rattle.std.proofs.Common.{◌≡◌, ℕ, suc, ◌<◌, ◌≤◌, min, max, Bool, true, false, cond, ltb, refl, arith}
+use Rattle.std.proofs.Common.{◌≡◌, ℕ, suc, ◌≤◌, Bool, true, false, cond, ltb, refl, arith}
 use Rattle.std.proofs.lemmas.Bool.{ltb-true}
 use Rattle.cells.specs.declared.content.Content.TheVariants.{Nothing, Cell}
-use Rattle.cells.specs.declared.cell.Tag.TheVariants.{Free, Used}
 use Rattle.cells.specs.Calls.{InRange}
 use Rattle.model.specs.Invariant.{Invariant}
-use Rattle.model.specs.State.{State, clipped_holds, opened}
+use Rattle.model.specs.State.{opened}
 use Rattle.model.proofs.Basics.{not_both_colours, not_both_tags}
 use Rattle.model.proofs.FreeList.{free_opened}
 

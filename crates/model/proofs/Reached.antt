@@ -1,17 +1,16 @@
 -- The collector leaves reach as it is.
-use Rattle.std.proofs.Common.{◌≡◌, ℕ, ◌<◌, Bool, true, false, ◌↔◌, List, Some, None, Option, refl, ◌∙◌, inl, inr}
+use Rattle.std.proofs.Common.{◌≡◌, ℕ, ◌<◌, Bool, Some, None, Option, refl, ◌∙◌}
 use Rattle.cells.specs.declared.cell.Tag.TheVariants.{Used}
 use Rattle.cells.specs.declared.cell.SweepColour.TheVariants as sweep
-use Rattle.cells.specs.Cells.{Cells}
 use Rattle.numbering.specs.Same.{Names}
 use Rattle.model.specs.declared.stage.Stage.{Stage}
 use Rattle.model.specs.declared.stage.Stage.TheVariants.{AtHold, AtCell, Ended}
 use Rattle.model.specs.Collector.{after_mark, after_sweep, after_turn, after_unit, can_turn, mark_and_sweep, mark_at, mark_found, next_grey, pass_by, put_back, sweep_answer, turned}
-use Rattle.model.specs.Invariant.{Invariant, Kept}
+use Rattle.model.specs.Invariant.{Invariant}
 use Rattle.model.specs.Reach.{Reached, Reached.held, Reached.through}
 use Rattle.model.specs.State.{State, size_of}
 use Rattle.model.proofs.FreeList.{named_after}
-use Rattle.model.proofs.Moves.{Rolled, Rolled.rolls, Rolled.rests, Swept, Swept.put, Swept.past, Swept.idle, mark_keeps, put_apart, put_names, sweep_keeps, sweeps_how, turns_how}
+use Rattle.model.proofs.Moves.{Rolled, Rolled.rolls, Rolled.rests, Swept, Swept.put, Swept.past, Swept.idle, mark_keeps, put_apart, put_names, sweeps_how, turns_how}
 use Rattle.model.proofs.Runs.{reached_kept}
 
 -- a step with the same numbers of cells and holds, and the same reach

@@ -1,23 +1,20 @@
 -- What holds of every chain of steps.
-use Rattle.std.proofs.Common.{◌≡◌, ℕ, ◌+◌, ◌<◌, ◌≤◌, Bool, true, false, ◌||◌, ◌⊎◌, ◌↔◌, List, [], ◌∷◌, ◌++◌, Some, None, sym, refl, ap, ◌∙◌, inl, inr, append_assoc, append-nil, arith}
-use Rattle.std.proofs.lemmas.Bool.{cases_Bool}
+use Rattle.std.proofs.Common.{◌≡◌, ℕ, ◌+◌, ◌<◌, Bool, true, false, ◌||◌, ◌⊎◌, ◌↔◌, List, [], ◌∷◌, ◌++◌, sym, refl, ap, ◌∙◌, inl, inr, append_assoc, append-nil, arith}
 use Rattle.archive.specs.Pattern.{among}
 use Rattle.cells.specs.declared.cell.Tag.TheVariants.{Free, Used}
-use Rattle.cells.specs.declared.cell.SweepColour.TheVariants as sweep
 use Rattle.cells.specs.Cells.{changed_at}
 use Rattle.cells.specs.Record.{as_sweep}
 use Rattle.cells.proofs.Changed.{changed_by, changed_from}
-use Rattle.numbering.specs.Lists.{In}
-use Rattle.numbering.proofs.Lists.{among_in, among_not, in_among}
+use Rattle.numbering.proofs.Lists.{among_in, among_not}
 use Rattle.model.specs.declared.stage.Stage.TheVariants.{Ended}
 use Rattle.model.specs.Collector.{turned}
-use Rattle.model.specs.History.{Event, Event.marks, Event.sweeps, Event.turns, Event.gives, Event.moves, Moment, at}
-use Rattle.model.specs.Invariant.{Dark, Invariant, Kept}
+use Rattle.model.specs.History.{Event, Event.turns, Moment, at}
+use Rattle.model.specs.Invariant.{Invariant, Kept}
 use Rattle.model.specs.Reach.{Reached, Reached.held, Reached.through, Stray}
-use Rattle.model.specs.Runs.{FirstInFirstOut, NeverFree, NoTurn, NoTurns, PutBackOnce, ReachesUsed, TagsAgree, TagsTell, back_by, back_in, backs, given_by, given_in, times_back, used_after}
+use Rattle.model.specs.Runs.{FirstInFirstOut, NeverFree, NoTurns, PutBackOnce, ReachesUsed, TagsAgree, TagsTell, back_by, back_in, given_by, given_in, times_back, used_after}
 use Rattle.model.specs.State.{State, size_of}
 use Rattle.model.proofs.Basics.{not_both_colours, not_both_tags, white_or_black}
-use Rattle.model.proofs.Moves.{as_mark_dark, as_sweep_black, black_as_sweep, turn_keeps}
+use Rattle.model.proofs.Moves.{as_mark_dark, as_sweep_black, black_as_sweep}
 use Rattle.model.proofs.Phases.{Condemned, Done, Floating, Kind, Kind.quiet, Kind.grown, Kind.put, Kind.past, Kind.turn, Silent, Silent.marking, Silent.moving, Silent.idle, Spared, condemned_step, done_step, floating_step, spared_step}
 use Rattle.model.proofs.Shade.{black_dark}
 use Rattle.model.proofs.Steps.{Step, step_fine}

@@ -1,14 +1,12 @@
 -- Every step of a history keeps the invariant and is of one of the five kinds.
-use Rattle.std.proofs.Common.{◌≡◌, ℕ, zero, suc, ◌<◌, ◌≤◌, Bool, true, false, ◌||◌, eqb, ◌⊎◌, List, [], ◌∷◌, ◌++◌, length, get_or, Some, None, Option, sym, refl, ap, ◌∙◌, inl, inr, arith}
+use Rattle.std.proofs.Common.{◌≡◌, ℕ, ◌<◌, Bool, true, false, eqb, ◌⊎◌, List, [], ◌∷◌, ◌++◌, length, get_or, Some, None, Option, sym, refl, ◌∙◌, inl, inr, arith}
 use Rattle.std.proofs.lemmas.Bool.{cases_Bool, eq-eqb, eqb-true}
-use Rattle.std.specs.List.{AllByRecursion as All}
 use Rattle.archive.specs.Pattern.{Pattern, among}
 use Rattle.cells.specs.declared.content.Content.{Content}
 use Rattle.cells.specs.declared.content.Content.TheVariants.{Nothing, Yarn, Cell}
 use Rattle.cells.specs.declared.content.Joint.{Joint}
 use Rattle.cells.specs.declared.cell.Side.{Side}
-use Rattle.cells.specs.declared.cell.Tag.TheVariants.{Free, Used}
-use Rattle.cells.specs.declared.cell.MarkColour.{MarkColour}
+use Rattle.cells.specs.declared.cell.Tag.TheVariants.{Used}
 use Rattle.cells.specs.declared.cell.MarkColour.TheVariants as mark
 use Rattle.cells.specs.Calls.{InRange}
 use Rattle.cells.specs.Cells.{changed_at}
@@ -25,12 +23,11 @@ use Rattle.model.specs.Hand.{move_into, tie_to}
 use Rattle.model.specs.History.{Event, Event.marks, Event.sweeps, Event.turns, Event.gives, Event.moves}
 use Rattle.model.specs.Invariant.{Dark, Invariant, Kept}
 use Rattle.model.specs.Load.{cell_of, load_into, loaded_cell}
-use Rattle.model.specs.Reach.{Holds}
 use Rattle.model.specs.State.{State, size_of, with_hold, with_mark_colours, with_stage}
-use Rattle.model.specs.Take.{give, give_one, given_cells, new_sweep}
+use Rattle.model.specs.Take.{give, give_one, new_sweep}
 use Rattle.model.proofs.Basics.{at_old}
 use Rattle.model.proofs.Give.{Fresh, GivenNames, give_keeps, new_dark, new_kept, new_names, old_names, still_dark, was_free}
-use Rattle.model.proofs.Phases.{Grown, Kind, Kind.quiet, Kind.grown, Kind.put, Kind.past, Kind.turn, Silent.marking, Silent.moving, Silent.idle}
+use Rattle.model.proofs.Phases.{Grown, Kind, Kind.quiet, Kind.grown, Kind.put, Kind.past, Silent.marking, Silent.moving, Silent.idle}
 use Rattle.model.proofs.Moves.{Settled, Swept, Swept.put, Swept.past, Swept.idle, grey_dark, hold_keeps, mark_keeps, next_found, shade_keeps, sweeps_how, swept_keeps, tie_keeps, turn_keeps}
 use Rattle.model.proofs.Shade.{shaded_is, shaded_keeps}
 use Rattle.model.proofs.Touched.{Known, Quiet, Touched, Touched.by_hold, Touched.by_mark, Touched.by_name, hold_quiet, known_shadable, quiet_same, quiet_then, shade_quiet, tie_quiet, touched_kept}

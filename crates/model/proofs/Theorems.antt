@@ -1,13 +1,11 @@
 -- The statements of the crate, put together.
-use Rattle.std.proofs.Common.{◌≡◌, ℕ, Bool, true, false, Some, None, Option, refl}
+use Rattle.std.proofs.Common.{◌≡◌, true, false, None, refl}
 use Rattle.cells.specs.declared.cell.MarkColour.{MarkColour}
 use Rattle.cells.specs.declared.cell.MarkColour.TheVariants.{White, Grey, Black}
 use Rattle.cells.specs.Calls.{exchange_fault, first_grey}
-use Rattle.cells.specs.Fault.{grey_fault}
 use Rattle.cells.specs.Record.{is_grey}
 use Rattle.cells.proofs.Refused.{write_accepted}
 use Rattle.cells.proofs.Seek.{first_none}
-use Rattle.model.specs.declared.stage.Stage.TheVariants.{Ended}
 use Rattle.model.specs.Calls.{after_all}
 use Rattle.model.specs.Collector.{can_turn}
 use Rattle.model.specs.History.{deeds, history}

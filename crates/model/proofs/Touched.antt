@@ -1,6 +1,6 @@
 -- Touched: reached from a hold or from a cell that is already marked. What is touched is kept; what is not will be white
 -- at the next turn.
-use Rattle.std.proofs.Common.{◌≡◌, ℕ, ◌<◌, ◌⊎◌, refl, ◌∙◌, inl, inr}
+use Rattle.std.proofs.Common.{◌≡◌, ℕ, refl, ◌∙◌, inl, inr}
 use Rattle.cells.specs.declared.content.Content.{Content}
 use Rattle.cells.specs.declared.content.Content.TheVariants.{Cell}
 use Rattle.cells.specs.declared.cell.Side.{Side}

@@ -1,9 +1,8 @@
 -- The collector: mark, sweep, turn and unit, each with what it answers and the state it leaves.
-use Rattle.std.specs.Prelude.{ℕ, zero, suc, ◌+◌, Bool, true, false, cond, ◌&&◌, List, [], ◌∷◌, ◌++◌, Some, None, Ok, Option, Result, ◌==◌, nat_lt}
+use Rattle.std.specs.Prelude.{ℕ, zero, suc, ◌+◌, Bool, true, false, cond, ◌&&◌, [], ◌∷◌, ◌++◌, Some, None, Ok, Option, Result, ◌==◌, nat_lt}
 use Rattle.cells.specs.declared.content.Content.{Content}
 use Rattle.cells.specs.declared.cell.Tag.{Tag}
 use Rattle.cells.specs.declared.cell.Tag.TheVariants.{Free, Used}
-use Rattle.cells.specs.declared.cell.MarkColour.{MarkColour}
 use Rattle.cells.specs.declared.cell.MarkColour.TheVariants as mark
 use Rattle.cells.specs.declared.cell.SweepColour.{SweepColour}
 use Rattle.cells.specs.declared.cell.SweepColour.TheVariants as sweep

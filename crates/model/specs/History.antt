@@ -1,6 +1,6 @@
 -- What happened in a list of calls: its moments, those inside a take too. All of it is computed from the state and the
 -- calls, so that nothing is left to choose.
-use Rattle.std.specs.Prelude.{ℕ, zero, suc, ◌*◌, Bool, true, false, cond, List, [], ◌∷◌, ◌++◌, length, Ok, Err, Option, Result}
+use Rattle.std.specs.Prelude.{ℕ, zero, suc, ◌*◌, Bool, cond, List, [], ◌∷◌, ◌++◌, length, Ok, Err, Option, Result}
 use Rattle.std.proofs.Math.ListN as list
 use Rattle.model.specs.declared.answer.Answer.{Answer}
 use Rattle.model.specs.Calls.{Call, Call.yarn, Call.drop, Call.copy, Call.follow, Call.tie, Call.take, Call.load, Call.save, Call.mark, Call.sweep, Call.turn, after, answer}

@@ -1,5 +1,5 @@
 -- Load: the pattern of a text becomes new cells, all in one step.
-use Rattle.std.specs.Prelude.{ℕ, List, [], ◌∷◌, ◌++◌, length, take, drop, Ok, Err, Result, nat_le, slice_index, slice_index_or}
+use Rattle.std.specs.Prelude.{ℕ, List, ◌++◌, length, take, drop, Ok, Err, Result, nat_le, slice_index, slice_index_or}
 use Rattle.cells.specs.declared.content.Content.TheVariants.{Cell}
 use Rattle.lines.specs.declared.cell.PatternCell.{PatternCell}
 use Rattle.archive.specs.declared.fault.FileFault.{FileFault}

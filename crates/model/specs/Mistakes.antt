@@ -1,12 +1,12 @@
 -- Three well-known mistakes: the same definitions with one change each, and a run in which a held cell is lost.
-use Rattle.std.specs.Prelude.{◌≡◌, ℕ, List, [], ◌∷◌}
+use Rattle.std.specs.Prelude.{ℕ, [], ◌∷◌}
 use Rattle.cells.specs.declared.cell.Side.{Side}
 use Rattle.cells.specs.declared.cell.Side.TheVariants.{Left}
 use Rattle.cells.specs.Calls.{first_grey}
 use Rattle.model.specs.declared.stage.Stage.{Stage}
 use Rattle.model.specs.declared.stage.Stage.TheVariants.{AtHold, AtCell, Ended}
-use Rattle.model.specs.Calls.{Call, Call.drop, Call.follow, Call.mark, Call.sweep, Call.take, Call.tie, Call.turn, after, after_all}
-use Rattle.model.specs.Collector.{after_mark, mark_at, mark_found, whitened_cells}
+use Rattle.model.specs.Calls.{Call.drop, Call.mark, Call.sweep, Call.take, Call.tie, Call.turn, after, after_all}
+use Rattle.model.specs.Collector.{mark_at, mark_found, whitened_cells}
 use Rattle.model.specs.Hand.{cell_beside, content_at, copy_answer, if_ok}
 use Rattle.model.specs.Reach.{IsFree, Reached}
 use Rattle.model.specs.State.{State, opened, with_cells, with_hold}

@@ -1,16 +1,16 @@
 -- What holds of a history, whatever calls it came from. The statements speak of reach, stray, free, put back and turn only.
-use Rattle.std.specs.Prelude.{◌≡◌, ℕ, ◌+◌, ◌<◌, ◌≤◌, Bool, true, false, cond, ◌||◌, ◌↔◌, List, [], ◌∷◌, ◌++◌, Some, None, Ok, Err, Option, Result, ◌==◌, ◌≢◌}
+use Rattle.std.specs.Prelude.{◌≡◌, ℕ, ◌+◌, ◌<◌, Bool, true, false, cond, ◌||◌, ◌↔◌, List, [], ◌∷◌, ◌++◌, Some, None, Err, Option, Result, ◌==◌, ◌≢◌}
 use Rattle.cells.specs.declared.cell.Tag.TheVariants.{Used}
 use Rattle.cells.specs.Cells.{changed_at}
 use Rattle.archive.specs.Pattern.{among}
 use Rattle.model.specs.declared.answer.Answer.{Answer}
 use Rattle.model.specs.declared.answer.Answer.TheVariants as told
 use Rattle.model.specs.declared.fault.StoreFault.{StoreFault}
-use Rattle.model.specs.declared.fault.StoreFault.TheVariants.{NoHold, NoCellHeld, YarnRange, NoJoint, NoCell, TooEarly, FewCells, ShortBuffer, ShortTable}
-use Rattle.model.specs.Calls.{Call, Call.yarn, Call.drop, Call.copy, Call.follow, Call.tie, Call.take, Call.load, Call.save, Call.mark, Call.sweep, Call.turn, after_all}
+use Rattle.model.specs.declared.fault.StoreFault.TheVariants.{NoHold, NoJoint, NoCell}
+use Rattle.model.specs.Calls.{Call, after_all}
 use Rattle.model.specs.History.{Deed, Event, Event.marks, Event.sweeps, Event.turns, Event.gives, Event.moves, Moment, at, deeds, history}
 use Rattle.model.specs.Reach.{Full, Reached, Stray}
-use Rattle.model.specs.State.{State, opened, size_of}
+use Rattle.model.specs.State.{State, size_of}
 
 -- Free and used are told by the history: used once given, free again once put back.
 abbrev pub swept_told : Option (ℕ × Bool) → (ℕ → Bool) → ℕ → Bool

@@ -1,5 +1,5 @@
 -- The state of a store, and what opening one leaves.
-use Rattle.std.specs.Prelude.{ℕ, suc, min, max, Bool, cond, ◌&&◌, List, Ok, Result, nat_le, nat_lt}
+use Rattle.std.specs.Prelude.{ℕ, suc, min, max, cond, ◌&&◌, List, Ok, Result, nat_le, nat_lt}
 use Rattle.cells.specs.declared.content.Content.{Content}
 use Rattle.cells.specs.declared.content.Content.TheVariants.{Nothing, Cell}
 use Rattle.cells.specs.declared.content.Joint.TheVariants.{Beside}

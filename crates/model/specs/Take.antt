@@ -1,6 +1,5 @@
 -- New cells, paces and take (allocation, which drives the collector).
 use Rattle.std.specs.Prelude.{ℕ, zero, suc, ◌+◌, ◌-◌, ◌*◌, ◌/◌, min, max, Bool, cond, List, [], ◌∷◌, length, Ok, Err, Result, ◌==◌, nat_eq, nat_le}
-use Rattle.cells.specs.declared.content.Content.{Content}
 use Rattle.cells.specs.declared.content.Content.TheVariants.{Cell}
 use Rattle.cells.specs.declared.content.Joint.{Joint}
 use Rattle.cells.specs.declared.content.Joint.TheVariants.{Beside, Above}

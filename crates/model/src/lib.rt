@@ -1,5 +1,7 @@
 //! The abstract store: what the contracts of a store speak of. The definitions in `specs/` say what a store is, what each
 //! call answers and leaves, and what happened in a list of calls; the code here is the vocabulary that they share with it.
+#![tactic(auto)]
+
 mod answer;
 mod examples;
 mod fault;

@@ -1,6 +1,6 @@
 -- Lines that obey the numbering rule are met in their own order, wherever they lie, and come back as they are.
 use Rattle.std.proofs.Common.{◌≡◌, ℕ, zero, suc, ◌+◌, ◌<◌, ◌≤◌, max, List, [], ◌∷◌, ◌++◌, length, get_or, Some, sym, refl, ap, ◌∙◌, subst, inl, inr, arith}
-use Rattle.std.specs.List.{AllByRecursion as All}
+use Rattle.std.specs.List.{AllByRecursion}
 use Rattle.std.proofs.lemmas.List.{append_assoc, ext_get_or, get_or_at, get_or-map, length-append, length-map, length_push}
 use Rattle.std.proofs.lemmas.Bool.{cases_eq}
 use Rattle.cells.specs.declared.content.Content.{Content}
@@ -21,7 +21,7 @@ use Rattle.numbering.proofs.Rule.{Obeys, first_line, numbered_obeys}
 use Rattle.numbering.proofs.Steps.{line_is, meets_new, meets_old, walk_stays}
 
 -- what holds of all contents of a pattern holds of those of its k-th line
-pub contents_at : (P : Content → Type 0) (p : Pattern) (k : ℕ) → All P (contents p) → k < length p → P (get_or p k no_line).left × P (get_or p k no_line).right
+pub contents_at : (P : Content → Type 0) (p : Pattern) (k : ℕ) → AllByRecursion P (contents p) → k < length p → P (get_or p k no_line).left × P (get_or p k no_line).right
 contents_at P [] k all h = absurd (omega arith)
 contents_at P (c ∷ cs) zero all h = (all.0, all.1.0)
 contents_at P (c ∷ cs) (suc k) all h = contents_at P cs k all.1.1 (omega arith)

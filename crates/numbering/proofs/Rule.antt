@@ -1,6 +1,6 @@
 -- The numbering rule, line by line.
 use Rattle.std.proofs.Common.{◌≡◌, ℕ, suc, ◌+◌, ◌≤◌, ◌∷◌, length, sym, subst, arith}
-use Rattle.std.specs.List.{AllByRecursion as All}
+use Rattle.std.specs.List.{AllByRecursion}
 use Rattle.cells.specs.Calls.{InRange}
 use Rattle.lines.specs.declared.cell.PatternCell.{PatternCell}
 use Rattle.archive.specs.Pattern.{Numbered, Pattern, contents, named}
@@ -34,7 +34,7 @@ first_line i g c cs rule =
     (right.0, on, record { follows = right.2; met = subst (λ j. Met j right.0 cs) next met })
 
 -- A pattern is numbered by the rule exactly if its lines may stand from line 0 on.
-pub obeys_numbered : (p : Pattern) → 1 ≤ length p → length p ≤ 16384 → All (InRange (length p)) (contents p) → Obeys 0 0 p → Numbered p
+pub obeys_numbered : (p : Pattern) → 1 ≤ length p → length p ≤ 16384 → AllByRecursion (InRange (length p)) (contents p) → Obeys 0 0 p → Numbered p
 obeys_numbered p some few range rule = record {
   some = some;
   few = few;

@@ -1,6 +1,6 @@
 -- The lines of a walk obey the numbering rule, so their text is accepted.
 use Rattle.std.proofs.Common.{◌≡◌, ℕ, suc, ◌+◌, ◌<◌, ◌≤◌, max, leb, List, [], ◌∷◌, ◌++◌, map, length, get_or, Some, None, sym, refl, ap, ◌∙◌, subst, inl, inr, arith}
-use Rattle.std.specs.List.{AllByRecursion as All}
+use Rattle.std.specs.List.{AllByRecursion}
 use Rattle.std.proofs.lemmas.List.{append_assoc, get_or_at, length-append, length-map, length_push}
 use Rattle.std.proofs.lemmas.Bool.{cases_lt, cond_both, cond-true, le-leb}
 use Rattle.cells.specs.declared.content.Content.{Content}
@@ -89,7 +89,7 @@ module _ (cells : Cells) (first : ℕ) (sound : Sound cells) (inside : first < c
   content_fits_lem (Yarn y) range met = range
   content_fits_lem (Cell c) range met = (number_at order c (met c refl)).below
 
-  lines_fit : (rest : List ℕ) → ((c : ℕ) → In c rest → In c order) → All (InRange (length order)) (contents (map (line_of cells order) rest))
+  lines_fit : (rest : List ℕ) → ((c : ℕ) → In c rest → In c order) → AllByRecursion (InRange (length order)) (contents (map (line_of cells order) rest))
   lines_fit [] there = tt
   lines_fit (i ∷ rest) there =
       let each = numbers_each cells first sound inside in
@@ -108,7 +108,7 @@ module _ (cells : Cells) (first : ℕ) (sound : Sound cells) (inside : first < c
       obeys_numbered (pattern_of cells order)
       (omega (arith, (numbers_each cells first sound inside).some))
       (omega (arith, order_few cells first sound inside, sound.few))
-      (subst (λ n. All (InRange n) (contents (pattern_of cells order))) (sym long) (lines_fit order (λ c h. h)))
+      (subst (λ n. AllByRecursion (InRange n) (contents (pattern_of cells order))) (sym long) (lines_fit order (λ c h. h)))
       (lines_obey [] order 0 0 refl refl refl)
 
   pub walk_accepted : Accepted (pattern_of cells (order_from cells first))

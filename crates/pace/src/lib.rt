@@ -1,4 +1,6 @@
 //! How much the collector does for each allocation: the pace, and the guard under which a task has one of its own.
+#![tactic(auto)]
+
 mod guard;
 mod limits;
 #[cfg(test)]

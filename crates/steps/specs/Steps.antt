@@ -7,7 +7,6 @@ use Rattle.cells.specs.declared.content.Joint.{Joint}
 use Rattle.cells.specs.declared.content.Joint.TheVariants.{Beside}
 use Rattle.cells.specs.declared.cell.Tag.TheVariants.{Free, Used}
 use Rattle.cells.specs.declared.cell.MarkColour.TheVariants as mark
-use Rattle.cells.specs.declared.cell.SweepColour.{SweepColour}
 use Rattle.cells.specs.declared.cell.SweepColour.TheVariants as sweep
 use Rattle.cells.specs.Cells.{Cells, changed_at}
 use Rattle.shading.specs.Shading.{shaded, with_marks}

@@ -1,5 +1,7 @@
 //! The steps of a store as they change a heap, any heap: known only by its meaning. Each speaks of a sound heap and of
 //! cells and contents that it has; on any other heap it is safe and ends.
+#![tactic(auto)]
+
 ghost use Rattle.std.specs.Prelude.{◌≡◌, ℕ, ◌<◌, cond, None, ◌==◌};
 ghost use Rattle.cells.specs.Calls.{InRange, write_unless};
 ghost use Rattle.cells.specs.Cells.{cell_at};

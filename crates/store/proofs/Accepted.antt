@@ -1,5 +1,5 @@
 -- What an accepted call answers and leaves, once its checks are known.
-use Rattle.std.proofs.Common.{◌≡◌, ℕ, zero, suc, ◌*◌, ◌<◌, ◌≤◌, Bool, true, false, cond, eqb, ltb, leb, List, [], ◌∷◌, length, Ok, Err, Result, sym, refl, ap, ◌∙◌, arith}
+use Rattle.std.proofs.Common.{◌≡◌, ℕ, zero, suc, ◌*◌, ◌<◌, ◌≤◌, true, false, leb, length, Ok, Result, sym, refl, ap, ◌∙◌}
 use Rattle.std.proofs.lemmas.Bool.{cond-false, le-leb, ltb-true, ne_eqb}
 use Rattle.archive.proofs.Outcomes.{unless_ok}
 use Rattle.cells.specs.declared.content.Content.{Content}
@@ -11,7 +11,7 @@ use Rattle.model.specs.declared.fault.StoreFault.{StoreFault}
 use Rattle.model.specs.declared.fault.StoreFault.TheVariants.{NoHold}
 use Rattle.model.specs.Collector.{after_units, span}
 use Rattle.model.specs.FreeList.{none_free}
-use Rattle.model.specs.Hand.{after_copy, after_drop, after_follow, after_tie, after_yarn, content_at, copy_answer, drop_answer, follow_answer, if_ok, is_hold, move_into, tie_answer, tie_to, yarn_answer}
+use Rattle.model.specs.Hand.{after_copy, after_drop, after_follow, after_tie, after_yarn, content_at, copy_answer, drop_answer, follow_answer, is_hold, move_into, tie_answer, tie_to, yarn_answer}
 use Rattle.model.specs.State.{State, with_hold}
 use Rattle.model.specs.Take.{Pace, after_take, front_answer, hunt_for, hunted_units, take_answer, take_front, take_joint, units_for, units_run, worked}
 use Rattle.model.proofs.Histories.{worked_count}

@@ -1,14 +1,13 @@
 -- The changes of the hand and the gift of a cell, as the store makes them.
-use Rattle.std.proofs.Common.{◌≡◌, ℕ, zero, suc, ◌+◌, ◌-◌, ◌<◌, ◌≤◌, Bool, true, false, cond, eqb, ltb, ◌≢◌, List, [], ◌∷◌, length, get_or, sym, refl, ap, ◌∙◌, subst, inl, inr, arith, length-set, get_or-set_other, get_or-set_same}
+use Rattle.std.proofs.Common.{◌≡◌, ℕ, zero, suc, ◌-◌, ◌<◌, eqb, ltb, ◌≢◌, List, [], ◌∷◌, length, get_or, sym, refl, ap, ◌∙◌, subst, inl, inr, arith, length-set, get_or-set_other, get_or-set_same}
 use mathlib.Core.Path.{fun_ext}
 use lib.ListN as list
 use Rattle.std.proofs.lemmas.Bool.{cases_eq, cond-false, cond-true, eq-eqb, lt-ltb, ne_eqb}
 use Rattle.cells.specs.declared.content.Content.{Content}
-use Rattle.cells.specs.declared.content.Content.TheVariants.{Nothing, Yarn, Cell}
+use Rattle.cells.specs.declared.content.Content.TheVariants.{Nothing, Cell}
 use Rattle.cells.specs.declared.content.Joint.{Joint}
 use Rattle.cells.specs.declared.cell.Side.{Side}
 use Rattle.cells.specs.declared.cell.Side.TheVariants.{Left, Right}
-use Rattle.cells.specs.declared.cell.CellRecord.{CellRecord}
 use Rattle.cells.specs.declared.cell.MarkColour.TheVariants.{Black}
 use Rattle.cells.specs.declared.cell.Tag.TheVariants.{Used}
 use Rattle.cells.specs.declared.cell.SweepColour.{SweepColour}
@@ -19,7 +18,7 @@ use Rattle.cells.proofs.Changed.{changed_other, changed_same}
 use Rattle.model.specs.Hand.{content_at, move_into, tie_to, tied_cells}
 use Rattle.model.specs.History.{Event.gives, Event.moves}
 use Rattle.model.specs.Invariant.{Invariant}
-use Rattle.model.specs.State.{State, size_of, with_cells, with_hold}
+use Rattle.model.specs.State.{State, with_cells, with_hold}
 use Rattle.model.specs.Take.{give_one, given_cells, new_sweep, take_front, where_new}
 use Rattle.model.proofs.Histories.{side_known, side_range}
 use Rattle.model.proofs.Steps.{Step.moved, Step.set, Step.tied, Step.took, step_fine}

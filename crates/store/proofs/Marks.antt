@@ -1,19 +1,19 @@
 -- A mark of the store is a mark of its state.
-use Rattle.std.proofs.Common.{◌≡◌, ℕ, ◌<◌, Bool, Some, None, Option, sym, refl, ap, ◌∙◌, subst}
+use Rattle.std.proofs.Common.{◌≡◌, ℕ, ◌<◌, Some, None, Option, sym, refl, ap, ◌∙◌, subst}
 use Rattle.cells.specs.Calls.{InRange}
 use Rattle.cells.specs.Cells.{Cells}
 use Rattle.model.specs.declared.stage.Stage.{Stage}
 use Rattle.model.specs.declared.stage.Stage.TheVariants.{AtHold, AtCell, Ended}
 use Rattle.model.specs.declared.answer.MarkAnswer.{MarkAnswer}
-use Rattle.model.specs.Collector.{after_mark, found_answer, mark_answer, mark_answer_at, mark_at, mark_found, next_grey, stage_after, stage_answer}
+use Rattle.model.specs.Collector.{after_mark, mark_answer, mark_answer_at, mark_at, mark_found, next_grey, stage_after, stage_answer}
 use Rattle.model.specs.Invariant.{Invariant}
-use Rattle.model.specs.State.{State, size_of, with_cells, with_stage}
+use Rattle.model.specs.State.{State, with_cells, with_stage}
 use Rattle.model.proofs.Moves.{mark_keeps, next_found}
 use Rattle.steps.specs.Steps.{cells_blackened}
 use Rattle.store.specs.declared.whole.Store.{Store}
 use Rattle.store.specs.Marking.{found_at, found_cells, marked_cells}
-use Rattle.store.specs.View.{InState, LastIs, WellFormed, view, with_heap}
-use Rattle.store.proofs.Forming.{Parts, formed_parts, in_state}
+use Rattle.store.specs.View.{InState, WellFormed, view, with_heap}
+use Rattle.store.proofs.Forming.{formed_parts, in_state}
 
 module _ {H : Type 0} (mean : H → Cells) (sound : H → Type 0) (s : Store H) where
   -- the cell that is found is black

@@ -1,13 +1,13 @@
 -- A sweep, a turn and a unit of the store are those of its state.
-use Rattle.std.proofs.Common.{◌≡◌, ℕ, zero, suc, ◌+◌, ◌<◌, ◌≤◌, Bool, true, false, cond, ◌&&◌, eqb, ltb, List, [], ◌∷◌, ◌++◌, length, sym, refl, ap, ◌∙◌, subst, inl, inr, arith}
+use Rattle.std.proofs.Common.{◌≡◌, ℕ, ◌+◌, ◌<◌, ◌≤◌, true, cond, eqb, List, [], ◌∷◌, ◌++◌, length, sym, refl, ap, ◌∙◌, subst, arith}
 use Rattle.std.proofs.lemmas.List.{length_push}
-use Rattle.std.proofs.lemmas.Bool.{and_parts, cond-false, cond-true, eqb-true, le-ltb, lt-ltb, ne_eqb}
+use Rattle.std.proofs.lemmas.Bool.{cond-false, cond-true, ne_eqb}
 use Rattle.cells.specs.declared.content.Content.{Content}
 use Rattle.cells.specs.declared.content.Content.TheVariants.{Nothing, Cell}
 use Rattle.cells.specs.declared.cell.SweepColour.TheVariants as sweep
 use Rattle.cells.specs.declared.content.Joint.TheVariants.{Beside}
 use Rattle.cells.specs.declared.cell.Tag.TheVariants.{Free, Used}
-use Rattle.cells.specs.Calls.{InRange, Lawful, exchange_answer, exchange_cells, exchange_unless}
+use Rattle.cells.specs.Calls.{InRange, exchange_cells, exchange_unless}
 use Rattle.cells.specs.Cells.{Cells, changed_at}
 use Rattle.numbering.proofs.Lists.{few_below}
 use Rattle.model.specs.declared.stage.Stage.TheVariants.{AtHold}
@@ -19,7 +19,7 @@ use Rattle.model.proofs.Moves.{can_turn_parts, pass_keeps, put_back_keeps, turn_
 use Rattle.model.proofs.Theorems.{heap_refuses_nothing}
 use Rattle.steps.specs.Steps.{cells_freed}
 use Rattle.store.specs.declared.whole.Store.{Store}
-use Rattle.store.specs.View.{InState, LastIs, WellFormed, chain, view}
+use Rattle.store.specs.View.{InState, LastIs, WellFormed, view}
 use Rattle.store.proofs.Forming.{FrontIs, Parts, formed_parts, in_state}
 
 -- the free list has no more cells than there are

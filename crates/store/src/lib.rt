@@ -1,4 +1,6 @@
 //! The store over any heap: holds, marker, sweeper and free list.
+#![tactic(auto)]
+
 mod collector;
 mod hand;
 mod holds;

@@ -1,7 +1,7 @@
 -- A text cut in two at its first byte of a kind.
 use Rattle.std.specs.Prelude.{◌≡◌, ℕ, cond, List, [], ◌∷◌, ◌++◌, Some, None, Option, ◌==◌, ◌≢◌}
 use Rattle.std.specs.Borrow.{Bor}
-use Rattle.std.specs.List.{AllByRecursion as All}
+use Rattle.std.specs.List.{AllByRecursion}
 
 -- p in front of what was cut off
 abbrev pub behind : List ℕ → Option (List ℕ × List ℕ) → Option (List ℕ × List ℕ)
@@ -20,7 +20,7 @@ parts_of (Some parts) = Some (parts.0.now, parts.1.now)
 
 -- none of the bytes xs is b
 abbrev pub Lacks : ℕ → List ℕ → Type 0
-Lacks b xs = All (λ x. x ≢ b) xs
+Lacks b xs = AllByRecursion (λ x. x ≢ b) xs
 
 -- The law of a cut: the two parts with the stop between them are the text, and the front part has no stop.
 abbrev pub Cuts : ℕ → List ℕ → List ℕ → List ℕ → Type 0

@@ -1,5 +1,5 @@
 use Rattle.std.proofs.Common.{arith}
-use Rattle.store.proofs.Units.{hunt_begins, hunt_found, hunt_limit, hunt_more}
+use Rattle.store.proofs.Units.{hunt_begins, hunt_found, hunt_more}
 use Rattle.store.proofs.whole.Store.hunt.Goals as goal
 
 pub loop-units-init : goal.loop-units-init
