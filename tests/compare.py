@@ -35,7 +35,7 @@ import model  # noqa: E402  (the line above must come first)
 from model import Cell, Content, Fault, Joint, Link, Nothing, Pattern, Yarn  # noqa: E402
 
 TOP = Path(__file__).resolve().parent.parent
-DEFAULT_BINARY = TOP / "target" / "bin" / "inspect"
+DEFAULT_BINARY = TOP / "crates" / "inspect" / "out" / "inspect"
 DEFAULT_COUNT = 20_000
 ENOUGH = 200  # how often each answer must occur in a run of the default count
 WORKERS = 2

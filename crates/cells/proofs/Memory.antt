@@ -19,8 +19,8 @@ use Rattle.cells.specs.Record.{exchanged_cell, new_cell, painted_cell, relinked_
 use Rattle.cells.proofs.Changed.{changed_same, changed_other, paint_table, write_table}
 use Rattle.cells.proofs.Refused.{Accepted, accepted_below, accepted_none, write_below}
 
-get_d_changed : {A : Type 0} (xs : List A) (i : ℕ) (v d : A) → i < length xs → (λ j. get_or (set xs i v) j d) ≡ changed_at (λ j. get_or xs j d) i v
-get_d_changed xs i v d l = fun_ext (λ j. elim (cases_eq j i) [
+get_or_changed : {A : Type 0} (xs : List A) (i : ℕ) (v d : A) → i < length xs → (λ j. get_or (set xs i v) j d) ≡ changed_at (λ j. get_or xs j d) i v
+get_or_changed xs i v d l = fun_ext (λ j. elim (cases_eq j i) [
   | inl e ↦ rw e (get_or-set_same xs i v d l ∙ sym (changed_same (λ j. get_or xs j d) i v))
   | inr n ↦ (let m : j ≢ i = n in get_or-set_other xs i j v d m ∙ sym (changed_other (λ j. get_or xs j d) i v j n))
 ])
@@ -36,7 +36,7 @@ module _ (cs : List CellRecord) (n : ℕ) (fits : n ≤ length cs) where
       ap Ok (sym (front_at_lem i (accepted_below n i ok))) ∙ ap (λ f. answer f (cell_at (front_cells n cs) i)) (sym none)
 
   front_set : (i : ℕ) (v : CellRecord) → i < n → front_at n (set cs i v) ≡ changed_at (front_at n cs) i v
-  front_set i v h = ap (λ xs j. get_or xs j new_cell) (take-set-lt n cs i v h) ∙ get_d_changed (take n cs) i v new_cell (omega (arith, length-take-le n cs fits))
+  front_set i v h = ap (λ xs j. get_or xs j new_cell) (take-set-lt n cs i v h) ∙ get_or_changed (take n cs) i v new_cell (omega (arith, length-take-le n cs fits))
 
   front_paint : (i : ℕ) (k : Colour) (v : CellRecord) → Accepted (index_fault n i) → v ≡ painted_cell (get_or cs i new_cell) k → front_cells n (set cs i v) ≡ paint_cells (front_cells n cs) i k
   front_paint i k v ok e =

@@ -92,8 +92,8 @@ header_numbers_lem (header version count) v n e =
     let b = (number_read count second.0 second.1).1 in
     ap (λ t. header t count) (a ∙ ap (λ p. decimal p.0) same) ∙ ap (header (decimal v)) (b ∙ ap (λ p. decimal p.1) same)
 
-abbrev with_joint : List ℕ → List ℕ → Joint → Option PatternCell
-with_joint left right j = given (content_in left) (λ l. given (content_in right) (λ r. Some (record { joint = j; left = l; right = r })))
+abbrev joined_cell : List ℕ → List ℕ → Joint → Option PatternCell
+joined_cell left right j = given (content_in left) (λ l. given (content_in right) (λ r. Some (record { joint = j; left = l; right = r })))
 
 abbrev with_left : List ℕ → Joint → Content → Option PatternCell
 with_left right j l = given (content_in right) (λ r. Some (record { joint = j; left = l; right = r }))
@@ -102,7 +102,7 @@ pub cell_values_lem : (f : Fields) (c : PatternCell) → cell_values f ≡ Some 
 cell_values_lem (header version count) c e = absurd (none_not_some e)
 cell_values_lem (end count) c e = absurd (none_not_some e)
 cell_values_lem (cell joint left right) c e =
-    let j = given_some (joint_in joint) (with_joint left right) c e in
+    let j = given_some (joint_in joint) (joined_cell left right) c e in
     let l = given_some (content_in left) (with_left right j.0) c j.2 in
     let r = given_some (content_in right) (λ r. Some (record { joint = j.0; left = l.0; right = r })) c l.2 in
     ap (λ t. cell t left right) (joint_holds joint j.0 j.1)
@@ -113,7 +113,7 @@ cell_values_lem (cell joint left right) c e =
 pub cell_values_back : (c : PatternCell) → Short c.left → Short c.right → cell_values (cell_fields c) ≡ Some c
 cell_values_back c l r =
     let right = content_text c.right in
-    ap (λ o. given o (with_joint (content_text c.left) right)) (joint_back c.joint)
+    ap (λ o. given o (joined_cell (content_text c.left) right)) (joint_back c.joint)
     ∙ ap (λ o. given o (with_left right c.joint)) (content_back c.left l)
     ∙ ap (λ o. given o (λ x. Some (record { joint = c.joint; left = c.left; right = x }))) (content_back c.right r)
 

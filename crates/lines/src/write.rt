@@ -127,6 +127,7 @@ fn cell_opening(joint: Joint) -> &'static [u8]
 }
 
 // How many bytes the line of a cell is written in.
+#[tactic(auto, using(crate::proofs::Lengths::cell_length))]
 pub fn cell_length(cell: PatternCell) -> usize
     ensures bytes { result ≡ length (line_text (cell_fields cell)) }
     ensures few { result ≤ 31 }
