@@ -1,5 +1,6 @@
 -- What an accepted line shows, and which lines are accepted.
 use Rattle.std.proofs.Common.{◌≡◌, ℕ, ◌+◌, ◌<◌, ◌≤◌, Bool, true, false, cond, ◌&&◌, eqb, leb, List, [], ◌∷◌, ◌++◌, length, Some, None, Ok, codes, decimal, sym, refl, ap, ◌∙◌, subst, append_assoc, append-nil, arith, ltb-true, lt-ltb, eq-eqb, eqb-true, le-leb, leb-true}
+use Rattle.std.proofs.lemmas.Bool.{and_parts}
 use Rattle.std.proofs.lemmas.Bool.Decides.{nat_tests}
 use Rattle.text.specs.Cut.{Lacks, cut_at}
 use Rattle.text.specs.Number.{number_in}
@@ -16,7 +17,7 @@ use Rattle.lines.specs.Text.{cell_fields, end_fields, header_fields, line_text}
 use Rattle.lines.specs.Values.{cell_values, end_count, given, header_numbers}
 use Rattle.archive.specs.Reading.{Place, and_then, as_cell, as_end, as_heading, as_line, cell_due, cell_read, content_fits, count_fits, finished, goes_on, in_range, line_at, line_due, line_goes_on, opened, or_fault, same_count, unless, with_count}
 use Rattle.lines.proofs.Forms.{line_holds, line_back}
-use Rattle.lines.proofs.Options.{given_some, none_not_some}
+use Rattle.lines.proofs.Options.{given_some}
 use Rattle.lines.proofs.Plain.{cell_ends, cell_plain, end_ends, end_plain, header_ends, header_plain, version_is}
 use Rattle.archive.proofs.Outcomes.{and_then_ok, step_ok, step_back, unless_ok, unless_back, ok_same}
 use Rattle.lines.proofs.Values.{Short, cell_values_lem, cell_values_back, empty, end_count_lem, header_numbers_lem}
@@ -100,11 +101,6 @@ range_short n Nothing few h = tt
 range_short n (Yarn y) few h = omega arith
 range_short n (Cell k) few h = omega arith
 
-both_true : (a b : Bool) → (a && b) ≡ true → (a ≡ true) × (b ≡ true)
-both_true true true e = (refl, refl)
-both_true true false e = absurd (let z : ◌≡◌ {A = ℕ} 0 1 = cc in omega arith)
-both_true false b e = absurd (let z : ◌≡◌ {A = ℕ} 0 1 = cc in omega arith)
-
 -- the contents of cell i may stand behind the greatest number g, and leave h as the greatest
 pub record GoesOn (i g : ℕ) (c : PatternCell) (h : ℕ) : Type 0 where
   pub met : i ≤ g
@@ -119,7 +115,7 @@ goes_on_lem i g c h e = by (leb i g) refl e
     by true q e =
         let left = given_some (goes_on g c.left) (λ k. goes_on k c.right) h e in
         record { met = leb-true i g q; middle = left.0; left_goes = left.1; right_goes = left.2 }
-    by false q e = absurd (none_not_some e)
+    by false q e = cc
 
 goes_back : (i g : ℕ) (c : PatternCell) (h : ℕ) → GoesOn i g c h → line_goes_on i g c ≡ Some h
 goes_back i g c h on =
@@ -146,10 +142,10 @@ cell_read_lem p c q e =
     let fits = content_fits p.count d.left && content_fits p.count d.right in
     let number = and_then (or_fault (line_goes_on p.next p.greatest d) (Numbering at)) (cell_read p rest d) in
     let range = unless_ok fits (OfLine (Range at)) number (c, q) value.2 in
-    let both = both_true (content_fits p.count d.left) (content_fits p.count d.right) range.0 in
+    let both = and_parts (content_fits p.count d.left) (content_fits p.count d.right) range.0 in
     let goes = step_ok (line_goes_on p.next p.greatest d) (Numbering at) (cell_read p rest d) (c, q) range.1 in
     let after : Place = record { count = p.count; next = p.next + 1; greatest = goes.0; rest = rest } in
-    let same : (d, after) ≡ (c, q) = ok_same goes.2 in
+    let same : (d, after) ≡ (c, q) = ok_same {x = (d, after)} {y = (c, q)} goes.2 in
     let read : CellRead p d after = record {
       text_is = line_read at p.rest f rest line.1 ∙ ap (λ t. line_text t ++ rest) (cell_values_lem f d value.1);
       count_is = refl;
@@ -158,7 +154,7 @@ cell_read_lem p c q e =
       right_in = fits_range p.count d.right both.1;
       goes = goes_on_lem p.next p.greatest d goes.0 goes.1;
     } in
-    subst (λ r. CellRead p r.0 r.1) same read
+    subst (λ r. CellRead p r.0 r.1) {x = (d, after)} {y = (c, q)} same read
 
 pub cell_written : (p : Place) (c : PatternCell) (q : Place) → p.count ≤ 16384 → CellRead p c q → cell_due p ≡ Ok (c, q)
 cell_written p c q few read =

@@ -1,12 +1,12 @@
 -- The numbering rule, content by content and line by line as the reader follows it, says what `Numbered` says.
 use Rattle.std.proofs.Common.{◌≡◌, ℕ, zero, suc, ◌+◌, ◌<◌, ◌≤◌, max, Bool, true, false, cond, ◌||◌, eqb, leb, List, [], ◌∷◌, ◌++◌, length, take, drop, Some, None, sym, refl, ap, ◌∙◌, subst, arith, eqb-true, le-leb, leb-true}
-use borrow.Author.Tests.{eqb-false}
+use Rattle.std.proofs.lemmas.Bool.{eqb-false}
+use Rattle.std.proofs.lemmas.Option.{same_Some}
 use Rattle.cells.specs.declared.content.Content.{Content}
 use Rattle.cells.specs.declared.content.Content.TheVariants.{Nothing, Yarn, Cell}
 use Rattle.lines.specs.declared.cell.PatternCell.{PatternCell}
 use Rattle.archive.specs.Pattern.{Pattern, among, contents, greatest, named}
 use Rattle.archive.specs.Reading.{goes_on}
-use Rattle.lines.proofs.Options.{none_not_some, some_same}
 
 -- The numbers that are named, one by one.
 
@@ -19,16 +19,13 @@ Follows g (k ∷ ks) = (k ≤ g + 1) × Follows (max g k) ks
 abbrev pub Each-follows : ℕ → List ℕ → Type 0
 Each-follows g xs = (before : List ℕ) (k : ℕ) (after : List ℕ) → xs ≡ before ++ (k ∷ after) → k ≤ max g (greatest before) + 1
 
-same_head : {x y : ℕ} {xs ys : List ℕ} → ◌≡◌ {A = List ℕ} (x ∷ xs) (y ∷ ys) → (x ≡ y) × (xs ≡ ys)
-same_head e = (cc, cc)
-
 pub each_follows : (g : ℕ) (xs : List ℕ) → Follows g xs → Each-follows g xs
-each_follows g [] f [] k after e = absurd (let z : ◌≡◌ {A = ℕ} 0 1 = cc in omega arith)
-each_follows g [] f (b ∷ before) k after e = absurd (let z : ◌≡◌ {A = ℕ} 0 1 = cc in omega arith)
-each_follows g (x ∷ xs) f [] k after e = let same = (same_head e).0 in omega (arith, f.0, same)
+each_follows g [] f [] k after e = cc
+each_follows g [] f (b ∷ before) k after e = cc
+each_follows g (x ∷ xs) f [] k after e = let same : x ≡ k = cc in omega (arith, f.0)
 each_follows g (x ∷ xs) f (b ∷ before) k after e =
-    let same = same_head e in
-    omega (arith, each_follows (max g x) xs f.1 before k after same.1, same.0)
+    let same : x ≡ b = cc in
+    omega (arith, each_follows (max g x) xs f.1 before k after cc)
 
 pub follows_each : (g : ℕ) (xs : List ℕ) → Each-follows g xs → Follows g xs
 follows_each g [] f = tt
@@ -51,7 +48,7 @@ none_left_out g (x ∷ xs) f i low high = by (none_left_out (max g x) xs f.1 i) 
     by more false q = let apart = eqb-false i x q in more (omega (arith, f.0)) (omega arith)
 
 pub among_most : (i : ℕ) (xs : List ℕ) → among i xs ≡ true → i ≤ greatest xs
-among_most i [] e = absurd (let z : ◌≡◌ {A = ℕ} 0 1 = cc in omega arith)
+among_most i [] e = cc
 among_most i (x ∷ xs) e = by (among_most i xs) (eqb i x) refl e
   where
     by : (among i xs ≡ true → i ≤ greatest xs) → (t : Bool) → eqb i x ≡ t → (t || among i xs) ≡ true → i ≤ max x (greatest xs)
@@ -62,23 +59,23 @@ among_most i (x ∷ xs) e = by (among_most i xs) (eqb i x) refl e
 
 -- the greatest number named behind a content
 pub behind_content : (g : ℕ) (x : Content) (h : ℕ) → goes_on g x ≡ Some h → h ≡ max g (greatest (named (x ∷ [])))
-behind_content g Nothing h e = omega (arith, some_same e)
-behind_content g (Yarn y) h e = omega (arith, some_same e)
+behind_content g Nothing h e = omega (arith, same_Some _ _ e)
+behind_content g (Yarn y) h e = omega (arith, same_Some _ _ e)
 behind_content g (Cell k) h e = by (leb k (g + 1)) e
   where
     by : (t : Bool) → cond t (Some (max g k)) None ≡ Some h → h ≡ max g (max k 0)
-    by true e = omega (arith, some_same e)
-    by false e = absurd (none_not_some e)
+    by true e = omega (arith, same_Some _ _ e)
+    by false e = cc
 
 -- a content may stand behind g, and the others behind it
 pub follows_content : (g : ℕ) (x : Content) (h : ℕ) (xs : List Content) → goes_on g x ≡ Some h → Follows h (named xs) → Follows g (named (x ∷ xs))
-follows_content g Nothing h xs e f = subst (λ k. Follows k (named xs)) (sym (some_same e)) f
-follows_content g (Yarn y) h xs e f = subst (λ k. Follows k (named xs)) (sym (some_same e)) f
+follows_content g Nothing h xs e f = subst (λ k. Follows k (named xs)) (sym (same_Some _ _ e)) f
+follows_content g (Yarn y) h xs e f = subst (λ k. Follows k (named xs)) (sym (same_Some _ _ e)) f
 follows_content g (Cell k) h xs e f = by (leb k (g + 1)) refl e
   where
     by : (t : Bool) → leb k (g + 1) ≡ t → cond t (Some (max g k)) None ≡ Some h → (k ≤ g + 1) × Follows (max g k) (named xs)
-    by true q e = (leb-true k (g + 1) q, subst (λ j. Follows j (named xs)) (sym (some_same e)) f)
-    by false q e = absurd (none_not_some e)
+    by true q e = (leb-true k (g + 1) q, subst (λ j. Follows j (named xs)) (sym (same_Some _ _ e)) f)
+    by false q e = cc
 
 pub content_follows : (g : ℕ) (x : Content) (xs : List Content) → Follows g (named (x ∷ xs)) → (h : ℕ) × (goes_on g x ≡ Some h) × Follows h (named xs)
 content_follows g Nothing xs f = (g, refl, f)

@@ -1,12 +1,12 @@
 -- A reader's steps: what is left to read, cell by cell.
-use Rattle.std.proofs.Common.{◌≡◌, suc, ◌+◌, ◌-◌, ◌<◌, Bool, true, false, cond, leb, [], Some, None, Ok, Err, Result, sym, refl, ap, ◌∙◌, arith, leb-false, leb-true}
+use Rattle.std.proofs.Common.{◌≡◌, suc, ◌+◌, ◌-◌, ◌<◌, Bool, true, false, cond, leb, [], is_some, Some, None, Ok, Err, Option, Result, sym, refl, ap, ◌∙◌, arith, leb-false, leb-true}
+use Rattle.std.proofs.lemmas.Option.{same_Some}
 use Rattle.lines.specs.declared.cell.PatternCell.{PatternCell}
 use Rattle.archive.specs.declared.fault.FileFault.{FileFault}
 use Rattle.archive.specs.Pattern.{Pattern}
 use Rattle.archive.specs.Reading.{Place, and_then, cell_due, cells_from, cell_given, in_front, moved_on, next_cell, place_after, behind_cells, due}
 use Rattle.archive.proofs.Accepts.{CellRead, cell_read_lem}
-use Rattle.lines.proofs.Options.{none_not_some, some_same}
-use Rattle.archive.proofs.Outcomes.{ok_same, err_not_ok}
+use Rattle.archive.proofs.Outcomes.{ok_same}
 
 module _ (p : Place) where
   -- a due cell is the first of what is left
@@ -22,11 +22,11 @@ module _ (p : Place) where
   cells_fault f e = by (leb p.count p.next) refl e
     where
       fault : (r : Result (PatternCell × Place) FileFault) → cell_given r ≡ Err f → first_then r ≡ Err f
-      fault (Ok read) e = absurd (err_not_ok (sym e))
+      fault (Ok read) e = cc
       fault (Err g) e = cc
 
       by : (t : Bool) → leb p.count p.next ≡ t → cond t (Ok None) (cell_given (cell_due p)) ≡ Err f → cells_from (due p) p ≡ Err f
-      by true q e = absurd (err_not_ok (sym e))
+      by true q e = cc
       by false q e = cells_first q ∙ fault (cell_due p) e
 
   -- where no cell was given, none is due
@@ -34,8 +34,8 @@ module _ (p : Place) where
   none_due e = by (leb p.count p.next) e
     where
       never : (r : Result (PatternCell × Place) FileFault) → cell_given r ≡ Ok None → ⊥
-      never (Ok read) e = none_not_some (sym (ok_same e))
-      never (Err g) e = err_not_ok e
+      never (Ok read) e = cc
+      never (Err g) e = cc
 
       by : (t : Bool) → cond t (Ok None) (cell_given (cell_due p)) ≡ Ok None → t ≡ true
       by true e = refl
@@ -56,11 +56,11 @@ module _ (p : Place) where
   given_cell c e = by (leb p.count p.next) refl e
     where
       moved : (r : Result (PatternCell × Place) FileFault) → cell_given r ≡ Ok (Some c) → r ≡ Ok (c, moved_on p r)
-      moved (Ok read) e = ap (λ d. Ok (d, read.1)) (some_same (ok_same e))
-      moved (Err g) e = absurd (err_not_ok e)
+      moved (Ok read) e = ap (λ d. Ok (d, read.1)) (same_Some _ _ (ok_same e))
+      moved (Err g) e = cc
 
       by : (t : Bool) → leb p.count p.next ≡ t → cond t (Ok None) (cell_given (cell_due p)) ≡ Ok (Some c) → Given c
-      by true q e = absurd (none_not_some (ok_same e))
+      by true q e = cc
       by false q e =
           let after : place_after p ≡ moved_on p (cell_due p) = ap (λ t. cond t p (moved_on p (cell_due p))) q in
           record { more = q; read = moved (cell_due p) e ∙ ap (λ z. Ok (c, z)) (sym after) }
@@ -75,9 +75,6 @@ module _ (p : Place) where
   pub place_moves : (c : PatternCell) → next_cell p ≡ Ok (Some c) → CellRead p c (place_after p)
   place_moves c e = cell_read_lem p c (place_after p) (given_cell c e).read
 
-  pub next_below : (c : PatternCell) → next_cell p ≡ Ok (Some c) → p.next < p.count
-  next_below c e = leb-false _ _ (given_cell c e).more
-
   pub cells_some : (c : PatternCell) → next_cell p ≡ Ok (Some c) → cells_from (due p) p ≡ and_then (cells_from (due (place_after p)) (place_after p)) (in_front c)
   unfolding first_then
   cells_some c e =
@@ -90,12 +87,14 @@ module _ (p : Place) where
   pub behind_fault : (f : FileFault) → next_cell p ≡ Err f → behind_cells p ≡ Err f
   behind_fault f e = ap (λ r. and_then r (λ cells. Ok cells.1)) (cells_fault f e)
 
-  pub behind_none : next_cell p ≡ Ok None → behind_cells p ≡ Ok p
-  behind_none e = ap (λ r. and_then r (λ cells. Ok cells.1)) (cells_none e)
-
   pub behind_some : (c : PatternCell) → next_cell p ≡ Ok (Some c) → behind_cells p ≡ behind_cells (place_after p)
   behind_some c e = ap (λ r. and_then r (λ cells. Ok cells.1)) (cells_some c e) ∙ passed (cells_from (due (place_after p)) (place_after p))
     where
       passed : (r : Result (Pattern × Place) FileFault) → and_then (and_then r (in_front c)) (λ cells. Ok cells.1) ≡ and_then r (λ cells. Ok cells.1)
       passed (Ok cells) = refl
       passed (Err f) = refl
+
+  -- where some cell was given, no end is changed and less is due
+  pub passes : (given : Option PatternCell) → next_cell p ≡ Ok given → is_some given ≡ true → (behind_cells (place_after p) ≡ behind_cells p) × (due (place_after p) < due p)
+  passes (Some c) e t = (sym (behind_some c e), due_falls c e)
+  passes None e t = cc

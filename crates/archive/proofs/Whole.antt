@@ -157,8 +157,9 @@ counted text s e = by (cells_from (due s) s) refl
     by (Err g) f = refl
     by (Ok cells) f = last cells.0 cells.1 f (finished cells.1) refl
 
-pub verdict_is : (text : List ℕ) → and_then (opened text) (λ p. and_then (behind_cells p) finished) ≡ judged text
-verdict_is text = by (opened text) refl
+-- header, cells and end line, in this order
+pub verdict_is : (text : List ℕ) (r : Result ℕ FileFault) → r ≡ and_then (opened text) (λ p. and_then (behind_cells p) finished) → judged text ≡ r
+verdict_is text r h = sym (h ∙ by (opened text) refl)
   where
     by : (r : Result Place FileFault) → opened text ≡ r → and_then r (λ p. and_then (behind_cells p) finished) ≡ and_then (and_then r cells_and_end) (λ p. Ok (length p))
     by (Err g) e = refl

@@ -6,6 +6,7 @@ ghost use Rattle.archive.specs.declared.fault.FileFault.TheVariants.{OfLine};
 use lines::{Layer, LineFault};
 
 // What is wrong with a file: a fault of one of its lines, or one of the file as a whole.
+// Stays: no `Display`, which would be no plainer: only `report` tells a fault, in a line of its own form.
 #[derive(Clone, Copy, Debug, PartialEq)]
 pub enum FileFault {
     OfLine(LineFault),
@@ -38,6 +39,7 @@ impl FileFault {
     }
 
     // The fault's number in the table of refusals.
+    // Stays: a number of that table, for whoever prints it; nothing is decided by it.
     pub fn number(&self) -> u8
         ensures { result ≡ file_number self.now }
     {
@@ -55,10 +57,10 @@ impl FileFault {
     {
         match *self {
             FileFault::OfLine(fault) => fault.line(),
-            FileFault::Version(line) => line,
-            FileFault::Numbering(line) => line,
-            FileFault::NoLine(line) => line,
-            FileFault::Trailing(line) => line,
+            FileFault::Version(line)
+            | FileFault::Numbering(line)
+            | FileFault::NoLine(line)
+            | FileFault::Trailing(line) => line,
         }
     }
 }

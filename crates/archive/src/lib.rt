@@ -1,6 +1,7 @@
 //! The archive text of a pattern: its faults, a reader, and the verdict on a whole text. The lines are those of `lines`.
 #![tactic(auto)]
 
+mod due;
 mod fault;
 mod reader;
 mod verdict;
@@ -8,4 +9,5 @@ mod verdict;
 pub use fault::FileFault;
 pub use lines::{Layer, Line, LineFault, PatternCell, write_cell, write_end, write_header};
 pub use reader::Reader;
+pub use text::Writer;
 pub use verdict::judge;

@@ -1,16 +1,12 @@
 //! A reader with a place in a text, which judges each line as it comes to it.
-ghost use Rattle.std.specs.Prelude.{◌≡◌, ◌+◌, ◌<◌};
-ghost use Rattle.archive.specs.Reading.{cell_due, content_fits, count_fits, finished, goes_on, line_at, line_due, line_goes_on, next_cell, opened, place_after, place_of};
-ghost use Rattle.archive.specs.Answers.{cell_answer, line_answer, open_answer};
+ghost use Rattle.std.specs.Prelude.{◌≤◌};
 
+use crate::due::{content_fits, count_fits, line_at, line_goes_on};
 use crate::fault::FileFault;
-use cells::{Content, LAST_YARN, MOST_CELLS};
-use lines::{Line, LineFault, PatternCell};
-use text::cut_at;
-
-const LINE_END: u8 = 10;
+use lines::{LineFault, PatternCell};
 
 // A place in a text: behind the header and the lines of the cells before `next`.
+// Stays: `place_of` in the clauses and no `impl Model`, which is not had for a `Copy` struct with a lifetime.
 #[derive(Clone, Copy)]
 pub struct Reader<'a> {
     // how many cells the header announces
@@ -21,57 +17,16 @@ pub struct Reader<'a> {
     greatest: u32,
     // the text from the due line on
     rest: &'a [u8],
-}
-
-fn count_fits(n: u32) -> bool
-    ensures { result ≡ count_fits n }
-{
-    n >= 1 && n <= MOST_CELLS
-}
-
-fn content_fits(count: u32, content: Content) -> bool
-    ensures { result ≡ content_fits count content }
-{
-    match content {
-        Content::Nothing => true,
-        Content::Yarn(y) => y <= LAST_YARN,
-        Content::Cell(k) => k < count,
-    }
-}
-
-// The greatest number named once `content` is read.
-fn goes_on(greatest: u32, content: Content) -> Option<u32>
-    ensures { result ≡ goes_on greatest content }
-{
-    let Content::Cell(k) = content else {
-        return Some(greatest);
-    };
-    if u64::from(k) > u64::from(greatest) + 1 {
-        return None;
-    }
-    Some(greatest.max(k))
-}
-
-// The greatest number named once the line of cell `i` is read.
-fn line_goes_on(i: u32, greatest: u32, cell: PatternCell) -> Option<u32>
-    ensures { result ≡ line_goes_on i greatest cell }
-{
-    if i > greatest {
-        return None;
-    }
-    goes_on(goes_on(greatest, cell.left)?, cell.right)
-}
-
-// The due line and the text behind it.
-fn line_at<'a>(text: &'a [u8], line: usize) -> Result<(Line<'a>, &'a [u8]), FileFault>
-    ensures { line_answer result ≡ line_at line text.now }
-{
-    let (body, rest) = cut_at(text, LINE_END).ok_or(FileFault::NoLine(line))?;
-    let fields = Line::read(body).ok_or(LineFault::Form(line))?;
-    Ok((fields, rest))
+    ghost some: { 1 ≤ count },
+    ghost few: { count ≤ 16384 },
+    ghost within: { next ≤ count },
 }
 
 impl<'a> Reader<'a> {
+    ghost use Rattle.std.specs.Prelude.{◌≡◌, ◌<◌};
+    ghost use Rattle.archive.specs.Answers.{cell_answer, open_answer};
+    ghost use Rattle.archive.specs.Reading.{cell_due, finished, line_due, next_cell, opened, place_after, place_of};
+
     // A reader behind the header of a text.
     pub fn open(text: &'a [u8]) -> Result<Reader<'a>, FileFault>
         ensures { open_answer result ≡ opened text.now }
@@ -96,6 +51,7 @@ impl<'a> Reader<'a> {
     fn line_due(&self) -> usize
         ensures { result ≡ line_due (place_of self.now) }
     {
+        // Stays: `as`, since `usize` has no `From<u32>`.
         self.next as usize + 2
     }
 
@@ -125,6 +81,7 @@ impl<'a> Reader<'a> {
     }
 
     // The next cell, or none behind the last; the place stays where a line is refused.
+    // Stays: no `Iterator`, since a refused line stays due, and its fault would come again without end.
     pub fn next_cell(&mut self) -> Result<Option<PatternCell>, FileFault>
         ensures answer { result ≡ next_cell (place_of self.old) }
         ensures place { place_of self.new ≡ place_after (place_of self.old) }
@@ -147,7 +104,7 @@ impl<'a> Reader<'a> {
         if count != self.count {
             return Err(LineFault::Form(at).into());
         }
-        if rest.len() != 0 {
+        if !rest.is_empty() {
             return Err(FileFault::Trailing(at + 1));
         }
         Ok(self.count)

@@ -2,7 +2,7 @@
 ghost use Rattle.std.specs.Prelude.{◌≡◌, ℕ, ◌↔◌, Ok};
 ghost use Rattle.archive.specs.Answers.{open_answer};
 ghost use Rattle.archive.specs.Pattern.{OnePattern, WritesSome};
-ghost use Rattle.archive.specs.Reading.{and_then, behind_cells, finished, judged, opened, place_of};
+ghost use Rattle.archive.specs.Reading.{behind_cells, judged, place_of};
 
 use crate::fault::FileFault;
 use crate::reader::Reader;
@@ -11,13 +11,15 @@ use crate::reader::Reader;
 fn pass_cells<'a>(mut reader: Reader<'a>) -> Result<Reader<'a>, FileFault>
     ensures { open_answer result ≡ behind_cells (place_of reader.entry) }
 {
-    while let Some(_) = reader.next_cell()? {}
+    while reader.next_cell()?.is_some() {}
     Ok(reader)
 }
 
 // Header, cells and end line, in this order.
+// Stays: apart from `judge` by docs/DECISIONS.md, "Laws stand on thin public functions".
+#[tactic(auto, using(crate::proofs::Whole::verdict_is))]
 fn pass_text(text: &[u8]) -> Result<u32, FileFault>
-    ensures { result ≡ and_then (opened text.now) (λ p. and_then (behind_cells p) finished) }
+    ensures { result ≡ judged text.now }
 {
     pass_cells(Reader::open(text)?)?.finish()
 }

@@ -8,93 +8,102 @@ mod tests {
     };
     use cells::{Content, Joint};
     use std::test::Fail;
-    use text::{read_number, write_number};
+    use text::{Writer, read_number};
 
-    // The number and the line of the fault, or 0 and the count.
-    fn verdict(text: &[u8]) -> (u8, usize) {
-        match judge(text) {
-            Ok(count) => (0, count as usize),
-            Err(fault) => (fault.number(), fault.line()),
-        }
+    // The count, or the number and the line of the fault.
+    fn verdict(text: &[u8]) -> Result<u32, (u8, usize)> {
+        judge(text).map_err(|fault| (fault.number(), fault.line()))
     }
 
     #[test]
     fn worked_examples(rt: HostRuntime) {
-        assert_eq!(rt;
-            verdict(b"pattern\t1\t1\ncell\ta\tc0\ty7\nend\t1\n"),
-            (0, 1)
-        );
+        assert_eq!(rt; verdict(b"pattern\t1\t1\ncell\ta\tc0\ty7\nend\t1\n"), Ok(1));
         assert_eq!(rt;
             verdict(b"pattern\t1\t1\ncell\ta\tc1\ty7\nend\t1\n"),
-            (11, 2)
+            Err((11, 2))
         );
         assert_eq!(rt;
             verdict(b"pattern\t1\t2\ncell\tb\t-\t-\ncell\tb\t-\t-\nend\t2\n"),
-            (12, 3)
+            Err((12, 3))
         );
         assert_eq!(rt;
             verdict(b"pattern\t1\t2\ncell\tb\tc1\tc1\ncell\tb\ty5\t-\nend\t2\n"),
-            (0, 2)
+            Ok(2)
         );
     }
 
     // One text for every fault.
     #[test]
     fn every_fault(rt: HostRuntime) {
-        assert_eq!(rt; verdict(b"pattern\t1\tx\n"), (9, 1));
-        assert_eq!(rt; verdict(b"pattern\t2\t1\n"), (10, 1));
-        assert_eq!(rt; verdict(b"pattern\t1\t0\n"), (11, 1));
+        assert_eq!(rt; verdict(b"pattern\t1\tx\n"), Err((9, 1)));
+        assert_eq!(rt; verdict(b"pattern\t2\t1\n"), Err((10, 1)));
+        assert_eq!(rt; verdict(b"pattern\t1\t0\n"), Err((11, 1)));
         assert_eq!(rt;
             verdict(b"pattern\t1\t1\ncell\tb\ty4096\t-\nend\t1\n"),
-            (11, 2)
+            Err((11, 2))
         );
-        assert_eq!(rt; verdict(b"pattern\t1\t3\ncell\tb\tc2\t-\n"), (12, 2));
-        assert_eq!(rt; verdict(b"pattern\t1\t1\ncell\tb\t-\t-\n"), (13, 3));
+        assert_eq!(rt; verdict(b"pattern\t1\t3\ncell\tb\tc2\t-\n"), Err((12, 2)));
+        assert_eq!(rt; verdict(b"pattern\t1\t1\ncell\tb\t-\t-\n"), Err((13, 3)));
         assert_eq!(rt;
             verdict(b"pattern\t1\t1\ncell\tb\t-\t-\nend\t1\n\n"),
-            (14, 4)
+            Err((14, 4))
         );
-        assert_eq!(rt; verdict(b"pattern\t1\t1\ncell\tb\t-\t-\nend\t2\n"), (9, 3));
-        assert_eq!(rt; verdict(b"pattern\t1\t1\nend\t1\n"), (9, 2));
+        assert_eq!(rt;
+            verdict(b"pattern\t1\t1\ncell\tb\t-\t-\nend\t2\n"),
+            Err((9, 3))
+        );
+        assert_eq!(rt; verdict(b"pattern\t1\t1\nend\t1\n"), Err((9, 2)));
         assert_eq!(rt;
             verdict(b"pattern\t1\t1\ncell\tb\t-\t-\ncell\tb\t-\t-\n"),
-            (9, 3)
+            Err((9, 3))
         );
     }
 
     // Where one line breaks two rules, the rule that is asked first is told.
     #[test]
     fn two_rules_in_one_line(rt: HostRuntime) {
-        assert_eq!(rt; verdict(b"pattern\t2\tx\n"), (9, 1));
-        assert_eq!(rt; verdict(b"pattern\tx\t0\n"), (9, 1));
-        assert_eq!(rt; verdict(b"pattern\t2\t0\n"), (10, 1));
-        assert_eq!(rt; verdict(b"pattern\t2\t1"), (13, 1));
-        assert_eq!(rt; verdict(b"pattern\t1\t3\ncell\tb\ty4096\tc3x\n"), (9, 2));
-        assert_eq!(rt; verdict(b"pattern\t1\t3\ncell\tb\tc3x\ty4096\n"), (9, 2));
-        assert_eq!(rt; verdict(b"pattern\t1\t3\ncell\tb\tc2\tc3\n"), (11, 2));
-        assert_eq!(rt; verdict(b"pattern\t1\t3\ncell\tb\ty4096\tc2\n"), (11, 2));
-        assert_eq!(rt; verdict(b"pattern\t1\t1\ncell\tb\t-\t-\nend\t2\nx"), (9, 3));
+        assert_eq!(rt; verdict(b"pattern\t2\tx\n"), Err((9, 1)));
+        assert_eq!(rt; verdict(b"pattern\tx\t0\n"), Err((9, 1)));
+        assert_eq!(rt; verdict(b"pattern\t2\t0\n"), Err((10, 1)));
+        assert_eq!(rt; verdict(b"pattern\t2\t1"), Err((13, 1)));
+        assert_eq!(rt;
+            verdict(b"pattern\t1\t3\ncell\tb\ty4096\tc3x\n"),
+            Err((9, 2))
+        );
+        assert_eq!(rt;
+            verdict(b"pattern\t1\t3\ncell\tb\tc3x\ty4096\n"),
+            Err((9, 2))
+        );
+        assert_eq!(rt; verdict(b"pattern\t1\t3\ncell\tb\tc2\tc3\n"), Err((11, 2)));
+        assert_eq!(rt;
+            verdict(b"pattern\t1\t3\ncell\tb\ty4096\tc2\n"),
+            Err((11, 2))
+        );
+        assert_eq!(rt;
+            verdict(b"pattern\t1\t1\ncell\tb\t-\t-\nend\t2\nx"),
+            Err((9, 3))
+        );
     }
 
     #[test]
     fn odd_texts(rt: HostRuntime) {
-        assert_eq!(rt; verdict(b""), (13, 1));
-        assert_eq!(rt; verdict(b"\n"), (9, 1));
-        assert_eq!(rt; verdict(b"pattern\t1\t1 and no line end"), (13, 1));
-        assert_eq!(rt; verdict(b"pattern\t1\t100000\n"), (9, 1));
-        assert_eq!(rt; verdict(b"pattern\t1\t99999\n"), (11, 1));
-        assert_eq!(rt; verdict(b"pattern\t1\t01\n"), (9, 1));
-        assert_eq!(rt; verdict(b"pattern\t1\t1\r\n"), (9, 1));
-        assert_eq!(rt; verdict(b"pattern\t\t1\t1\n"), (9, 1));
-        assert_eq!(rt; verdict(b"pattern\t1\t1\ncell\tB\t-\t-\n"), (9, 2));
-        assert_eq!(rt; verdict(b"pattern\t1\t1\ncell\tb\t--\t-\n"), (9, 2));
+        assert_eq!(rt; verdict(b""), Err((13, 1)));
+        assert_eq!(rt; verdict(b"\n"), Err((9, 1)));
+        assert_eq!(rt; verdict(b"pattern\t1\t1 and no line end"), Err((13, 1)));
+        assert_eq!(rt; verdict(b"pattern\t1\t100000\n"), Err((9, 1)));
+        assert_eq!(rt; verdict(b"pattern\t1\t99999\n"), Err((11, 1)));
+        assert_eq!(rt; verdict(b"pattern\t1\t01\n"), Err((9, 1)));
+        assert_eq!(rt; verdict(b"pattern\t1\t1\r\n"), Err((9, 1)));
+        assert_eq!(rt; verdict(b"pattern\t\t1\t1\n"), Err((9, 1)));
+        assert_eq!(rt; verdict(b"pattern\t1\t1\ncell\tB\t-\t-\n"), Err((9, 2)));
+        assert_eq!(rt; verdict(b"pattern\t1\t1\ncell\tb\t--\t-\n"), Err((9, 2)));
         assert_eq!(rt;
             verdict(b"pattern\t1\t2\ncell\tb\t-\t-\ncell\tb\tc1\t-\nend\t2\n"),
-            (12, 3)
+            Err((12, 3))
         );
         assert_eq!(rt;
             verdict(b"pattern\t1\t1\ncell\tb\ty4095\ty0\nend\t1\n"),
-            (0, 1)
+            Ok(1)
         );
     }
 
@@ -129,15 +138,19 @@ mod tests {
         Ok(())
     }
 
+    fn writer<'a>(buffer: &'a mut [u8], at: usize) -> Writer<'a> {
+        Writer { buffer, at }
+    }
+
     #[test]
     fn short_room_leaves_the_buffer(rt: HostRuntime) {
         let mut buffer = [1u8; 8];
-        assert_eq!(rt; write_number(&mut buffer, 6, 123), None);
-        assert_eq!(rt; write_end(&mut buffer, 3, 9), None);
+        assert_eq!(rt; writer(&mut buffer, 6).number(123), None);
+        assert_eq!(rt; write_end(&mut writer(&mut buffer, 3), 9), None);
         assert_eq!(rt; buffer, [1u8; 8]);
-        assert_eq!(rt; write_end(&mut buffer, 2, 9), Some(6));
+        assert_eq!(rt; write_end(&mut writer(&mut buffer, 2), 9), Some(6));
         assert_eq!(rt; buffer, *b"\x01\x01end\t9\n");
-        assert_eq!(rt; write_header(&mut buffer, 0, 1), None);
+        assert_eq!(rt; write_header(&mut writer(&mut buffer, 0), 1), None);
     }
 
     // The line of cell i in the longest text: each content names the next cell while there is one, else the last.
@@ -154,13 +167,20 @@ mod tests {
     #[test]
     fn longest_text(rt: HostRuntime) -> Result<(), Fail> {
         let mut text = vec![in rt.alloc(); 0u8; 400000]?;
-        let mut at = write_header(&mut text, 0, 16384).ok_or("no room for the header")?;
+        let mut writer = Writer {
+            buffer: &mut text,
+            at: 0,
+        };
+        let mut sum = write_header(&mut writer, 16384).ok_or("no room for the header")?;
+        // Stays: the cells of a pattern that is made up here have their numbers, and nothing else to go through.
         for i in 0..16384 {
-            let length = write_cell(&mut text, at, long_line(i)).ok_or("no room for a cell")?;
-            at = at.saturating_add(length);
+            let length = write_cell(&mut writer, long_line(i)).ok_or("no room for a cell")?;
+            sum = sum.saturating_add(length);
         }
-        let length = write_end(&mut text, at, 16384).ok_or("no room for the end")?;
-        at = at.saturating_add(length);
+        let length = write_end(&mut writer, 16384).ok_or("no room for the end")?;
+        sum = sum.saturating_add(length);
+        let at = writer.at;
+        assert_eq!(rt; sum, 332984);
         assert_eq!(rt; at, 332984);
         text.truncate(at);
         assert_eq!(rt; judge(&text), Ok(16384));

@@ -2,11 +2,9 @@
 use Rattle.std.proofs.Common.{◌≡◌, ℕ, Bool, true, false, cond, eqb, ◌⊎◌, None, sym, refl, ap, ◌∙◌, inl, inr}
 use mathlib.Core.Path.{fun_ext}
 use Rattle.std.proofs.lemmas.Bool.{cond-true, cond-false, eqb-true, eqb-false, eq-eqb, ne_eqb}
-use Rattle.cells.specs.declared.content.Content.{Content}
-use Rattle.cells.specs.declared.content.Joint.{Joint}
-use Rattle.cells.specs.declared.cell.Tag.{Tag}
 use Rattle.cells.specs.declared.cell.Colour.{Colour}
 use Rattle.cells.specs.declared.cell.Colour.TheVariants.{Mark, Sweep}
+use Rattle.cells.specs.declared.cell.LinkRecord.{LinkRecord}
 use Rattle.cells.specs.declared.cell.CellRecord.{CellRecord}
 use Rattle.cells.specs.Cells.{cells_of, changed_at}
 use Rattle.cells.specs.Calls.{paint_unless, write_unless}
@@ -49,30 +47,30 @@ part_left p f i v e = fun_ext (λ j. changed_by (λ k x. p x ≡ p (f k)) f i v 
 pub paint_table : (n : ℕ) (f : ℕ → CellRecord) (i : ℕ) (k : Colour) → cells_of n (changed_at f i (painted_cell (f i) k)) ≡ paint_unless None (cells_of n f) i k
 paint_table n f i (Mark m) =
     let v = painted_cell (f i) (Mark m) in
-    let joints = part_left (λ x. x.joint) f i v refl in
-    let lefts = part_left (λ x. x.left) f i v refl in
-    let rights = part_left (λ x. x.right) f i v refl in
-    let tags = part_left (λ x. x.tag) f i v refl in
+    let joints = part_left (λ x. x.links.joint) f i v refl in
+    let lefts = part_left (λ x. x.links.left) f i v refl in
+    let rights = part_left (λ x. x.links.right) f i v refl in
+    let tags = part_left (λ x. x.links.tag) f i v refl in
     let marks = part_set (λ x. x.mark) f i v in
     let sweeps = part_left (λ x. x.sweep) f i v refl in
     λ t. record { size = n; joint = joints t; left = lefts t; right = rights t; tag = tags t; mark = marks t; sweep = sweeps t }
 paint_table n f i (Sweep s) =
     let v = painted_cell (f i) (Sweep s) in
-    let joints = part_left (λ x. x.joint) f i v refl in
-    let lefts = part_left (λ x. x.left) f i v refl in
-    let rights = part_left (λ x. x.right) f i v refl in
-    let tags = part_left (λ x. x.tag) f i v refl in
+    let joints = part_left (λ x. x.links.joint) f i v refl in
+    let lefts = part_left (λ x. x.links.left) f i v refl in
+    let rights = part_left (λ x. x.links.right) f i v refl in
+    let tags = part_left (λ x. x.links.tag) f i v refl in
     let marks = part_left (λ x. x.mark) f i v refl in
     let sweeps = part_set (λ x. x.sweep) f i v in
     λ t. record { size = n; joint = joints t; left = lefts t; right = rights t; tag = tags t; mark = marks t; sweep = sweeps t }
 
-pub write_table : (n : ℕ) (f : ℕ → CellRecord) (i : ℕ) (j : Joint) (l r : Content) (u : Tag) → cells_of n (changed_at f i (relinked_cell (f i) j l r u)) ≡ write_unless None (cells_of n f) i j l r u
-write_table n f i j l r u =
-    let v = relinked_cell (f i) j l r u in
-    let joints = part_set (λ x. x.joint) f i v in
-    let lefts = part_set (λ x. x.left) f i v in
-    let rights = part_set (λ x. x.right) f i v in
-    let tags = part_set (λ x. x.tag) f i v in
+pub write_table : (n : ℕ) (f : ℕ → CellRecord) (i : ℕ) (links : LinkRecord) → cells_of n (changed_at f i (relinked_cell (f i) links)) ≡ write_unless None (cells_of n f) i links
+write_table n f i links =
+    let v = relinked_cell (f i) links in
+    let joints = part_set (λ x. x.links.joint) f i v in
+    let lefts = part_set (λ x. x.links.left) f i v in
+    let rights = part_set (λ x. x.links.right) f i v in
+    let tags = part_set (λ x. x.links.tag) f i v in
     let marks = part_left (λ x. x.mark) f i v refl in
     let sweeps = part_left (λ x. x.sweep) f i v refl in
     λ t. record { size = n; joint = joints t; left = lefts t; right = rights t; tag = tags t; mark = marks t; sweep = sweeps t }

@@ -1,9 +1,7 @@
 -- Every call leaves lawful cells lawful.
 use Rattle.std.proofs.Common.{◌≡◌, ℕ, ◌≤◌, Some, None, Option, refl, ap, arith}
 use Rattle.std.proofs.lemmas.Bool.{ne_eqb}
-use Rattle.cells.specs.declared.content.Content.{Content}
-use Rattle.cells.specs.declared.content.Joint.{Joint}
-use Rattle.cells.specs.declared.cell.Tag.{Tag}
+use Rattle.cells.specs.declared.cell.LinkRecord.{LinkRecord}
 use Rattle.cells.specs.declared.cell.Colour.{Colour}
 use Rattle.cells.specs.declared.cell.Colour.TheVariants.{Mark, Sweep}
 use Rattle.cells.specs.declared.fault.HeapFault.{HeapFault}
@@ -14,18 +12,18 @@ use Rattle.cells.specs.Record.{exchanged_cell}
 use Rattle.cells.proofs.Changed.{changed_by}
 use Rattle.cells.proofs.Refused.{index_below, write_none}
 
-pub write_lawful : (c : Cells) (i : ℕ) (j : Joint) (l r : Content) (u : Tag) → Lawful c → Lawful (write_cells c i j l r u)
-write_lawful c i j l r u w = go (write_fault c.size i l r) refl
+pub write_lawful : (c : Cells) (i : ℕ) (links : LinkRecord) → Lawful c → Lawful (write_cells c i links)
+write_lawful c i links w = go (write_fault c.size i links.left links.right) refl
   where
-    go : (f : Option HeapFault) → write_fault c.size i l r ≡ f → Lawful (write_unless f c i j l r u)
+    go : (f : Option HeapFault) → write_fault c.size i links.left links.right ≡ f → Lawful (write_unless f c i links)
     go (Some x) e = w
     go None e =
-        let p = write_none c.size i l r e in
+        let p = write_none c.size i links.left links.right e in
         let below = p.0 in
         record {
           few = w.few;
-          left_in_range = λ k. changed_by (λ _ x. InRange c.size x) c.left i l k (λ _. p.1) (λ _. w.left_in_range k);
-          right_in_range = λ k. changed_by (λ _ x. InRange c.size x) c.right i r k (λ _. p.2) (λ _. w.right_in_range k);
+          left_in_range = λ k. changed_by (λ _ x. InRange c.size x) c.left i links.left k (λ _. p.1) (λ _. w.left_in_range k);
+          right_in_range = λ k. changed_by (λ _ x. InRange c.size x) c.right i links.right k (λ _. p.2) (λ _. w.right_in_range k);
           new_beyond = λ k h. let ne : k ≡ i → ⊥ = λ q. omega arith in rw (ne_eqb k i ne) (w.new_beyond k h);
         }
 

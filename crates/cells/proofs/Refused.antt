@@ -3,8 +3,7 @@ use Rattle.std.proofs.Common.{◌≡◌, ℕ, ◌<◌, ◌≤◌, ltb, leb, Some
 use Rattle.std.proofs.lemmas.Bool.{cases_Bool, cases_lt, cond-true, cond-false, le-leb, lt-ltb, le-ltb, leb-true, ltb-true}
 use Rattle.cells.specs.declared.content.Content.{Content}
 use Rattle.cells.specs.declared.content.Content.TheVariants.{Nothing, Yarn, Cell}
-use Rattle.cells.specs.declared.content.Joint.{Joint}
-use Rattle.cells.specs.declared.cell.Tag.{Tag}
+use Rattle.cells.specs.declared.cell.LinkRecord.{LinkRecord}
 use Rattle.cells.specs.declared.cell.CellRecord.{CellRecord}
 use Rattle.cells.specs.declared.fault.HeapFault.{HeapFault}
 use Rattle.cells.specs.declared.fault.HeapFault.TheVariants.{YarnRange, CellRange}
@@ -75,8 +74,8 @@ pub write_below : (m i : ℕ) (l r : Content) → Accepted (write_fault m i l r)
 write_below m i l r ok = (write_none m i l r (accepted_none (write_fault m i l r) ok)).0
 
 -- a refused write leaves the cells
-pub write_declined : (c : Cells) (i : ℕ) (j : Joint) (l r : Content) (t : Tag) (x : HeapFault) → Declined x (write_fault c.size i l r) → c ≡ write_cells c i j l r t
-write_declined c i j l r t x e = sym (ap (λ f. write_unless f c i j l r t) (declined_some x (write_fault c.size i l r) e))
+pub write_declined : (c : Cells) (i : ℕ) (links : LinkRecord) (x : HeapFault) → Declined x (write_fault c.size i links.left links.right) → c ≡ write_cells c i links
+write_declined c i links x e = sym (ap (λ f. write_unless f c i links) (declined_some x (write_fault c.size i links.left links.right) e))
 
 -- a read that is not refused, and one that is
 pub read_done : (m i : ℕ) (x y : CellRecord) → ◌≡◌ {A = Result CellRecord HeapFault} (Ok x) (answer (index_fault m i) y) → (i < m) × (x ≡ y)

@@ -52,7 +52,3 @@ seek_found g k (suc n) i e = elim (cases_Bool (is_grey (g k))) [
 -- what was found is grey
 pub found_grey : (c : Cells) (k i : ℕ) → first_grey c k ≡ Some i → (i < c.size) × (is_grey (c.mark i) ≡ true)
 found_grey c k i e = let q = seek_found c.mark k (c.size - k) i e in (omega arith, q.2)
-
--- what holds from k below i, and at i, holds from k below i + 1
-pub from_more : (P : ℕ → Type 0) (k i : ℕ) → ((j : ℕ) → k ≤ j → j < i → P j) → P i → (j : ℕ) → k ≤ j → j < i + 1 → P j
-from_more P k i f here j lo hi = elim (cases_eq j i) [ inl e ↦ subst P (sym e) here | inr ne ↦ f j lo (omega arith) ]

@@ -3,12 +3,11 @@
 use Rattle.std.specs.Prelude.{◌≡◌, ℕ, zero, suc, ◌-◌, ◌<◌, ◌≤◌, cond, Some, None, Option, Result}
 use Rattle.cells.specs.declared.content.Content.{Content}
 use Rattle.cells.specs.declared.content.Content.TheVariants.{Nothing, Yarn, Cell}
-use Rattle.cells.specs.declared.content.Joint.{Joint}
-use Rattle.cells.specs.declared.cell.Tag.{Tag}
 use Rattle.cells.specs.declared.cell.MarkColour.{MarkColour}
 use Rattle.cells.specs.declared.cell.SweepColour.{SweepColour}
 use Rattle.cells.specs.declared.cell.Colour.{Colour}
 use Rattle.cells.specs.declared.cell.Colour.TheVariants.{Mark, Sweep}
+use Rattle.cells.specs.declared.cell.LinkRecord.{LinkRecord}
 use Rattle.cells.specs.declared.cell.CellRecord.{CellRecord}
 use Rattle.cells.specs.declared.fault.HeapFault.{HeapFault}
 use Rattle.cells.specs.Cells.{Cells, cell_at, changed_at}
@@ -22,22 +21,22 @@ read_answer c i = answer (index_fault c.size i) (cell_at c i)
 
 -- write: joint, left, right and tag of cell i
 
-abbrev pub write_answer : Cells → ℕ → Content → Content → Result (Unit {0}) HeapFault
-write_answer c i l r = answer (write_fault c.size i l r) tt
+abbrev pub write_answer : Cells → ℕ → LinkRecord → Result (Unit {0}) HeapFault
+write_answer c i links = answer (write_fault c.size i links.left links.right) tt
 
-abbrev pub write_unless : Option HeapFault → Cells → ℕ → Joint → Content → Content → Tag → Cells
-write_unless f c i j l r t = record {
+abbrev pub write_unless : Option HeapFault → Cells → ℕ → LinkRecord → Cells
+write_unless f c i links = record {
   size = c.size;
-  joint = unless_fault f (changed_at c.joint i j) c.joint;
-  left = unless_fault f (changed_at c.left i l) c.left;
-  right = unless_fault f (changed_at c.right i r) c.right;
-  tag = unless_fault f (changed_at c.tag i t) c.tag;
+  joint = unless_fault f (changed_at c.joint i links.joint) c.joint;
+  left = unless_fault f (changed_at c.left i links.left) c.left;
+  right = unless_fault f (changed_at c.right i links.right) c.right;
+  tag = unless_fault f (changed_at c.tag i links.tag) c.tag;
   mark = c.mark;
   sweep = c.sweep;
 }
 
-abbrev pub write_cells : Cells → ℕ → Joint → Content → Content → Tag → Cells
-write_cells c i j l r t = write_unless (write_fault c.size i l r) c i j l r t
+abbrev pub write_cells : Cells → ℕ → LinkRecord → Cells
+write_cells c i links = write_unless (write_fault c.size i links.left links.right) c i links
 
 -- paint: the named colour of cell i
 

@@ -10,6 +10,7 @@ use Rattle.cells.specs.declared.cell.MarkColour.{MarkColour}
 use Rattle.cells.specs.declared.cell.MarkColour.TheVariants as mark
 use Rattle.cells.specs.declared.cell.SweepColour.{SweepColour}
 use Rattle.cells.specs.declared.cell.SweepColour.TheVariants as sweep
+use Rattle.cells.specs.declared.cell.LinkRecord.{LinkRecord}
 use Rattle.cells.specs.declared.cell.CellRecord.{CellRecord}
 
 -- There is a cell of each number below the size. At the size and above every part is that of a new cell,
@@ -23,9 +24,13 @@ pub record Cells : Type 0 where
   pub mark : ℕ → MarkColour
   pub sweep : ℕ → SweepColour
 
+-- all of cell i but its colours
+abbrev pub links_at : Cells → ℕ → LinkRecord
+links_at c i = record { joint = c.joint i; left = c.left i; right = c.right i; tag = c.tag i }
+
 -- all of cell i
 abbrev pub cell_at : Cells → ℕ → CellRecord
-cell_at c i = record { joint = c.joint i; left = c.left i; right = c.right i; tag = c.tag i; mark = c.mark i; sweep = c.sweep i }
+cell_at c i = record { links = links_at c i; mark = c.mark i; sweep = c.sweep i }
 
 -- f with v at i
 abbrev pub changed_at : {A : Type 0} → (ℕ → A) → ℕ → A → ℕ → A
@@ -33,7 +38,7 @@ changed_at f i v j = cond (j == i) v (f j)
 
 -- size cells, cell i as the table has it
 abbrev pub cells_of : ℕ → (ℕ → CellRecord) → Cells
-cells_of size table = record { size = size; joint = λ i. (table i).joint; left = λ i. (table i).left; right = λ i. (table i).right; tag = λ i. (table i).tag; mark = λ i. (table i).mark; sweep = λ i. (table i).sweep }
+cells_of size table = record { size = size; joint = λ i. (table i).links.joint; left = λ i. (table i).links.left; right = λ i. (table i).links.right; tag = λ i. (table i).links.tag; mark = λ i. (table i).mark; sweep = λ i. (table i).sweep }
 
 -- the cells of a new heap
 abbrev pub new_cells : ℕ → Cells

@@ -1,12 +1,12 @@
 -- One cell, and what becomes of it.
-use Rattle.std.specs.Prelude.{ℕ, Bool, true, false, cond}
+use Rattle.std.specs.Prelude.{ℕ, Bool, true, false, cond, ◌==◌, Some, None, Ok, Err, Option, Result}
 use Rattle.cells.specs.declared.content.Content.{Content}
-use Rattle.cells.specs.declared.content.Content.TheVariants.{Nothing}
+use Rattle.cells.specs.declared.content.Content.TheVariants.{Nothing, Yarn, Cell}
 use Rattle.cells.specs.declared.content.Joint.{Joint}
-use Rattle.cells.specs.declared.content.Joint.TheVariants.{Beside}
+use Rattle.cells.specs.declared.content.Joint.TheVariants.{Beside, Above}
+use Rattle.cells.specs.declared.content.UnknownJoint.{UnknownJoint}
 use Rattle.cells.specs.declared.cell.Side.{Side}
 use Rattle.cells.specs.declared.cell.Side.TheVariants.{Left, Right}
-use Rattle.cells.specs.declared.cell.Tag.{Tag}
 use Rattle.cells.specs.declared.cell.Tag.TheVariants.{Free}
 use Rattle.cells.specs.declared.cell.MarkColour.{MarkColour}
 use Rattle.cells.specs.declared.cell.MarkColour.TheVariants as mark
@@ -14,25 +14,45 @@ use Rattle.cells.specs.declared.cell.SweepColour.{SweepColour}
 use Rattle.cells.specs.declared.cell.SweepColour.TheVariants as sweep
 use Rattle.cells.specs.declared.cell.Colour.{Colour}
 use Rattle.cells.specs.declared.cell.Colour.TheVariants.{Mark, Sweep}
+use Rattle.cells.specs.declared.cell.LinkRecord.{LinkRecord}
 use Rattle.cells.specs.declared.cell.CellRecord.{CellRecord}
+
+-- the cell that a content names
+abbrev pub cell_named : Content → Option ℕ
+cell_named Nothing = None
+cell_named (Yarn y) = None
+cell_named (Cell i) = Some i
+
+-- the letter of a joint: 98 `b`, 97 `a`
+abbrev pub letter_of : Joint → ℕ
+letter_of Beside = 98
+letter_of Above = 97
+
+-- the joint of a letter
+abbrev pub joint_by_letter : ℕ → Result Joint UnknownJoint
+joint_by_letter letter = cond (letter == 98) (Ok Beside) (cond (letter == 97) (Ok Above) (Err (record { letter = letter })))
+
+-- what a new cell has besides its colours: free, joint `b`, both contents nothing
+abbrev pub new_links : LinkRecord
+new_links = record { joint = Beside; left = Nothing; right = Nothing; tag = Free }
 
 -- a cell of a new heap: free, joint `b`, both contents nothing, both colours white
 abbrev pub new_cell : CellRecord
-new_cell = record { joint = Beside; left = Nothing; right = Nothing; tag = Free; mark = mark.White; sweep = sweep.White }
+new_cell = record { links = new_links; mark = mark.White; sweep = sweep.White }
 
 -- what a cell contains on a side
 abbrev pub content_on : CellRecord → Side → Content
-content_on c Left = c.left
-content_on c Right = c.right
+content_on c Left = c.links.left
+content_on c Right = c.links.right
 
 -- a cell that is written: its colours stay
-abbrev pub relinked_cell : CellRecord → Joint → Content → Content → Tag → CellRecord
-relinked_cell c j l r t = record { joint = j; left = l; right = r; tag = t; mark = c.mark; sweep = c.sweep }
+abbrev pub relinked_cell : CellRecord → LinkRecord → CellRecord
+relinked_cell c links = record { links = links; mark = c.mark; sweep = c.sweep }
 
 -- a cell that is painted: only the named colour changes
 abbrev pub painted_cell : CellRecord → Colour → CellRecord
-painted_cell c (Mark m) = record { joint = c.joint; left = c.left; right = c.right; tag = c.tag; mark = m; sweep = c.sweep }
-painted_cell c (Sweep s) = record { joint = c.joint; left = c.left; right = c.right; tag = c.tag; mark = c.mark; sweep = s }
+painted_cell c (Mark m) = record { links = c.links; mark = m; sweep = c.sweep }
+painted_cell c (Sweep s) = record { links = c.links; mark = c.mark; sweep = s }
 
 -- the mark colour that a sweep colour becomes at an exchange
 abbrev pub as_mark : SweepColour → MarkColour
@@ -47,7 +67,7 @@ as_sweep mark.Black = sweep.Black
 
 -- a cell whose two colours have changed places
 abbrev pub exchanged_cell : CellRecord → CellRecord
-exchanged_cell c = record { joint = c.joint; left = c.left; right = c.right; tag = c.tag; mark = as_mark c.sweep; sweep = as_sweep c.mark }
+exchanged_cell c = record { links = c.links; mark = as_mark c.sweep; sweep = as_sweep c.mark }
 
 abbrev pub is_grey : MarkColour → Bool
 is_grey mark.White = false

@@ -1,13 +1,14 @@
 //! What a heap is: a memory of numbered cells, known only by what it means.
 ghost use Rattle.std.specs.Prelude.{◌≡◌};
-ghost use Rattle.cells.specs.Cells.{Cells};
+ghost use Rattle.cells.specs.Cells.{Cells, cell_at};
 ghost use Rattle.cells.specs.Calls.{Lawful, exchange_answer, exchange_cells, first_grey, paint_answer, paint_cells, read_answer, write_answer, write_cells};
 
-use crate::cell::{CellRecord, Colour, Tag};
-use crate::content::{Content, Joint};
+use crate::cell::{CellRecord, Colour, LinkRecord};
 use crate::fault::HeapFault;
 
 // Every call may be made on any heap; what it promises, it promises of a sound one, and it leaves that sound.
+// Stays: `sound self.old →` in each clause is no invariant of a type, since a heap that is not sound is still a heap:
+// a rule of the project asks every implementation for its sound states alone, and a layer is sound only over a sound heap.
 pub trait Heap {
     // The size, and what each cell holds. Two heaps of one meaning cannot be told apart by these calls.
     ghost meaning: { Self → Cells };
@@ -27,16 +28,9 @@ pub trait Heap {
         ensures { sound self.now → result ≡ read_answer (meaning self.now) index };
 
     // Sets joint, contents and tag of a cell, and no colour.
-    fn write(
-        &mut self,
-        index: u32,
-        joint: Joint,
-        left: Content,
-        right: Content,
-        tag: Tag,
-    ) -> Result<(), HeapFault>
-        ensures result { sound self.old → result ≡ write_answer (meaning self.old) index left right }
-        ensures after { sound self.old → meaning self.new ≡ write_cells (meaning self.old) index joint left right tag }
+    fn write(&mut self, index: u32, links: LinkRecord) -> Result<(), HeapFault>
+        ensures result { sound self.old → result ≡ write_answer (meaning self.old) index links }
+        ensures after { sound self.old → meaning self.new ≡ write_cells (meaning self.old) index links }
         ensures kept { sound self.old → sound self.new };
 
     // Sets one colour of a cell, and nothing else.
@@ -54,4 +48,11 @@ pub trait Heap {
         ensures result { sound self.old → result ≡ exchange_answer (meaning self.old) }
         ensures after { sound self.old → meaning self.new ≡ exchange_cells (meaning self.old) }
         ensures kept { sound self.old → sound self.new };
+}
+
+// All of a cell of any heap; one that does not exist is as a new one.
+pub fn look<H: Heap>(heap: &H, index: u32) -> CellRecord
+    ensures { H.sound heap.now → result ≡ cell_at (H.meaning heap.now) index }
+{
+    heap.read(index).unwrap_or(CellRecord::new())
 }

@@ -2,16 +2,11 @@
 #![tactic(auto)]
 
 mod cell;
-mod checks;
 mod content;
 mod fault;
 mod heap;
 
-pub use cell::{CellRecord, Colour, MarkColour, Side, SweepColour, Tag};
-pub use checks::{
-    check_exchange, check_index, check_write, exchanged, grey_weight, is_grey, new_cell, relinked,
-    repainted, size_for,
-};
-pub use content::{Content, Joint, LAST_YARN, MOST_CELLS};
-pub use fault::HeapFault;
-pub use heap::Heap;
+pub use cell::{CellRecord, Colour, LinkRecord, MarkColour, Side, SweepColour, Tag, size_for};
+pub use content::{Content, Joint, LAST_YARN, MOST_CELLS, UnknownJoint};
+pub use fault::{HeapFault, check_exchange, check_index, check_write};
+pub use heap::{Heap, look};

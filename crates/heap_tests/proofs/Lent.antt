@@ -1,46 +1,21 @@
 -- The lent memory of a planes heap that was made, exchanged and painted.
-use Rattle.std.proofs.Common.{◌≡◌, ℕ, List, length, None, refl, ap, ◌∙◌, subst, MutBor}
+use Rattle.std.proofs.Common.{◌≡◌, ℕ, List, length, None, refl, ap, ◌∙◌}
 use Rattle.cells.specs.Calls.{exchange_fault}
 use Rattle.cells.specs.Cells.{new_cells}
 use Rattle.cells.specs.Fault.{grey_fault, unless_fault}
 use Rattle.cells.proofs.Seek.{first_none}
 use Rattle.planes.specs.declared.heap.PlanesHeap.{PlanesHeap}
-use Rattle.planes.specs.declared.links.LinkRecord.{LinkRecord}
-use Rattle.planes.specs.Bits.{SameBits}
-use Rattle.planes.specs.Planes.{planes_size}
-use Rattle.planes.specs.Whole.{MadeIn, SameBeyond, cells_of_planes, size_of_planes, swapped_planes}
+use Rattle.planes.specs.Bits.{SameBits, bit_at}
+use Rattle.planes.specs.Whole.{cells_of_planes, size_of_planes, swapped_planes}
 use Rattle.planes.proofs.Entire.{swapped_size}
 
-bits_on : (n : ℕ) (p q r : List ℕ) → SameBits n p q → SameBits n q r → SameBits n p r
-bits_on n p q r a b = record { long = b.long ∙ a.long; beyond = λ j h. b.beyond j h ∙ a.beyond j h }
+-- bits that stayed from n on, and then from k on, which is n
+pub bits_on : {n k : ℕ} {p q made r back : List ℕ} → SameBits n p q → SameBits k made r → k ≡ n → made ≡ q → back ≡ r → SameBits n p back
+bits_on a b e f g = record { long = ap length g ∙ b.long ∙ ap length f ∙ a.long; beyond = λ j h. ap (λ x. bit_at x j) g ∙ b.beyond j (rw e h) ∙ ap (λ x. bit_at x j) f ∙ a.beyond j h }
 
--- nothing is grey in a new heap, so that an exchange is done
-new_none : (n : ℕ) → exchange_fault (new_cells n) ≡ None
-new_none n = ap grey_fault (first_none (new_cells n) 0 (λ j lo hi. refl))
-
-module _ (links : MutBor (List LinkRecord)) (grey mark sweep : MutBor (List ℕ)) (made turned painted : PlanesHeap) (m : MadeIn links grey mark sweep made)
-    (fresh : cells_of_planes made ≡ new_cells (planes_size (length links.now) (length grey.now) (length mark.now) (length sweep.now)))
-    (parts : turned ≡ unless_fault (exchange_fault (cells_of_planes made)) (swapped_planes made) made) (same : SameBeyond turned painted) where
-  abbrev n : ℕ
-  n = planes_size (length links.now) (length grey.now) (length mark.now) (length sweep.now)
-
-  swapped : turned ≡ swapped_planes made
-  swapped = parts ∙ ap (λ f. unless_fault f (swapped_planes made) made) (ap exchange_fault fresh ∙ new_none n)
-
-  sized : size_of_planes turned ≡ n
-  sized = ap size_of_planes swapped ∙ swapped_size made ∙ ap (λ c. c.size) fresh
-
-  pub grey_back : SameBits n grey.now painted.grey.now
-  grey_back =
-      let g = subst (λ k. SameBits k turned.grey.now painted.grey.now) sized same.grey in
-      bits_on n grey.now made.grey.now painted.grey.now m.greys.rest (subst (λ h. SameBits n h.grey.now painted.grey.now) swapped g)
-
-  pub mark_back : SameBits n mark.now painted.sweep.now
-  mark_back =
-      let s = subst (λ k. SameBits k turned.sweep.now painted.sweep.now) sized same.sweep in
-      bits_on n mark.now made.mark.now painted.sweep.now m.marks.rest (subst (λ h. SameBits n h.sweep.now painted.sweep.now) swapped s)
-
-  pub sweep_back : SameBits n sweep.now painted.mark.now
-  sweep_back =
-      let k = subst (λ k. SameBits k turned.mark.now painted.mark.now) sized same.mark in
-      bits_on n sweep.now made.sweep.now painted.mark.now m.sweeps.rest (subst (λ h. SameBits n h.mark.now painted.mark.now) swapped k)
+-- an exchange of a new heap is done, and leaves its size
+pub turned_new : (made turned : PlanesHeap) (n : ℕ) → cells_of_planes made ≡ new_cells n → turned ≡ unless_fault (exchange_fault (cells_of_planes made)) (swapped_planes made) made → (turned ≡ swapped_planes made) × (size_of_planes turned ≡ n)
+turned_new made turned n fresh parts =
+    let none : exchange_fault (new_cells n) ≡ None = ap grey_fault (first_none (new_cells n) 0 (λ j lo hi. refl)) in
+    let swapped : turned ≡ swapped_planes made = parts ∙ ap (λ f. unless_fault f (swapped_planes made) made) (ap exchange_fault fresh ∙ none) in
+    (swapped, ap size_of_planes swapped ∙ swapped_size made ∙ ap (λ c. c.size) fresh)

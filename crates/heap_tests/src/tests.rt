@@ -1,22 +1,16 @@
 //! Every heap at the sizes where something changes.
-use crate::calls::{exchanges_last, exchanges_none, greys_last, is_new, refuses_writes, shades};
-use cells::{CellRecord, Colour, Content, Heap, HeapFault, Joint, MarkColour, SweepColour, Tag};
-use planes::{LinkRecord, PlanesHeap};
+use crate::calls::{exchanges_last, greys_last, is_new, refuses_writes, shades};
+use cells::{
+    CellRecord, Colour, Content, Heap, HeapFault, Joint, LinkRecord, MarkColour, SweepColour, Tag,
+};
+use planes::{PlanesHeap, PlanesMemory};
 use records::RecordsHeap;
+use std::alloc::{AllocError, Global};
 use std::process::Abort;
 use std::test::Fail;
 use tally::GreyTally;
 
-// A record that no heap may find or leave in a cell.
-const OLD: CellRecord = CellRecord {
-    joint: Joint::Above,
-    left: Content::Cell(u32::MAX),
-    right: Content::Yarn(u32::MAX),
-    tag: Tag::Used,
-    mark: MarkColour::Grey,
-    sweep: SweepColour::Black,
-};
-
+// Links that no heap may find or leave in a cell.
 const OLD_LINKS: LinkRecord = LinkRecord {
     joint: Joint::Above,
     left: Content::Cell(u32::MAX),
@@ -24,17 +18,60 @@ const OLD_LINKS: LinkRecord = LinkRecord {
     tag: Tag::Used,
 };
 
-// All that is asked of a new heap of this size.
-fn all_calls<H: Heap>(rt: &impl Abort, heap: &mut H, size: u32) -> Result<(), Fail> {
-    is_new(rt, heap, size);
-    if size == 0 {
-        return exchanges_none(rt, heap);
+// A record that no heap may find or leave in a cell.
+const OLD: CellRecord = CellRecord {
+    links: OLD_LINKS,
+    mark: MarkColour::Grey,
+    sweep: SweepColour::Black,
+};
+
+// Memory for a planes heap, with records and bits that no heap may find or leave in a cell.
+#[derive(Drop)]
+struct Pieces {
+    links: Vec<LinkRecord>,
+    grey: Vec<u8>,
+    mark: Vec<u8>,
+    sweep: Vec<u8>,
+}
+
+impl Pieces {
+    // So many records, and so many bytes of each plane.
+    fn new(
+        alloc: Global,
+        links: usize,
+        grey: usize,
+        mark: usize,
+        sweep: usize,
+    ) -> Result<Pieces, AllocError> {
+        Ok(Pieces {
+            links: vec![in alloc; OLD_LINKS; links]?,
+            grey: vec![in alloc; 0xff; grey]?,
+            mark: vec![in alloc; 0xff; mark]?,
+            sweep: vec![in alloc; 0xff; sweep]?,
+        })
     }
+
+    fn heap(&mut self) -> PlanesHeap<'_> {
+        PlanesHeap::new(PlanesMemory {
+            links: self.links.as_mut_slice(),
+            grey: self.grey.as_mut_slice(),
+            mark: self.mark.as_mut_slice(),
+            sweep: self.sweep.as_mut_slice(),
+        })
+    }
+}
+
+// All that is asked of a new heap of this size.
+fn all_calls<H: Heap>(rt: &impl Abort, heap: &mut H, size: u32) {
+    is_new(rt, heap, size);
+    let Some(last) = size.checked_sub(1) else {
+        assert_eq!(rt; heap.exchange(), Ok(()));
+        return;
+    };
     refuses_writes(rt, heap, size);
-    greys_last(rt, heap, size - 1, size);
-    exchanges_last(rt, heap, size - 1);
-    greys_last(rt, heap, size - 1, size);
-    Ok(())
+    greys_last(rt, heap, last, size);
+    exchanges_last(rt, heap, last);
+    greys_last(rt, heap, last, size);
 }
 
 // The records beyond the size are as they were.
@@ -50,13 +87,8 @@ fn records_of_all_sizes(rt: HostRuntime) -> Result<(), Fail> {
         (16390, 16384),
     ] {
         let mut memory = vec![in rt.alloc(); OLD; length]?;
-        {
-            let mut heap = RecordsHeap::new(memory.as_mut_slice());
-            all_calls(&rt, &mut heap, size)?;
-        }
-        for i in 16384..length {
-            assert_eq!(rt; memory.get(i).copied(), Some(OLD));
-        }
+        all_calls(&rt, &mut RecordsHeap::new(memory.as_mut_slice()), size);
+        assert!(rt; memory.iter().skip(16384).all(|cell| *cell == OLD));
     }
     Ok(())
 }
@@ -76,57 +108,49 @@ fn planes_of_all_sizes(rt: HostRuntime) -> Result<(), Fail> {
         (16384, 2048, 2048, 2048, 16384),
         (16390, 2050, 2049, 2051, 16384),
     ];
-    for (length, greys, marks, sweeps, size) in rows {
-        let mut links = vec![in rt.alloc(); OLD_LINKS; length]?;
-        let mut grey = vec![in rt.alloc(); 0xff; greys]?;
-        let mut mark = vec![in rt.alloc(); 0xff; marks]?;
-        let mut sweep = vec![in rt.alloc(); 0xff; sweeps]?;
-        let mut heap = PlanesHeap::new(
-            links.as_mut_slice(),
-            grey.as_mut_slice(),
-            mark.as_mut_slice(),
-            sweep.as_mut_slice(),
-        );
-        all_calls(&rt, &mut heap, size)?;
+    for (links, grey, mark, sweep, size) in rows {
+        let mut pieces = Pieces::new(rt.alloc(), links, grey, mark, sweep)?;
+        all_calls(&rt, &mut pieces.heap(), size);
     }
     Ok(())
 }
 
 // Bits at the size and above, also in the byte of the last cell, are as they were, and no call reports them.
 #[test]
-fn planes_keep_the_rest(rt: HostRuntime) -> Result<(), Fail> {
+fn planes_keep_the_rest(rt: HostRuntime) {
     let mut links = [OLD_LINKS; 9];
     let mut grey = [0xff; 3];
     let mut mark = [0xf5; 2];
     let mut sweep = [0xfb; 2];
     {
-        let mut heap = PlanesHeap::new(&mut links, &mut grey, &mut mark, &mut sweep);
+        let mut heap = PlanesHeap::new(PlanesMemory {
+            links: &mut links,
+            grey: &mut grey,
+            mark: &mut mark,
+            sweep: &mut sweep,
+        });
         assert_eq!(rt; heap.first_grey(0), None);
-        all_calls(&rt, &mut heap, 9)?;
+        all_calls(&rt, &mut heap, 9);
     }
     // cell 8 is grey; its mark is white in the plane that was lent for sweeping, its sweep colour white in the other
     assert_eq!(rt; grey, [0, 0xff, 0xff]);
     assert_eq!(rt; mark, [0, 0xf4]);
     assert_eq!(rt; sweep, [0, 0xfa]);
-    Ok(())
 }
 
 #[test]
-fn tally_over_records(rt: HostRuntime) -> Result<(), Fail> {
+fn tally_over_records(rt: HostRuntime) {
     let mut memory = [OLD; 9];
     let mut tally = GreyTally::lay(RecordsHeap::new(&mut memory));
-    all_calls(&rt, &mut tally, 9)
+    all_calls(&rt, &mut tally, 9);
 }
 
 #[test]
 fn tally_over_tally_over_planes(rt: HostRuntime) -> Result<(), Fail> {
-    let mut links = [OLD_LINKS; 9];
-    let mut grey = [0xff; 2];
-    let mut mark = [0xff; 2];
-    let mut sweep = [0xff; 2];
-    let below = GreyTally::lay(PlanesHeap::new(&mut links, &mut grey, &mut mark, &mut sweep));
-    let mut tally = GreyTally::lay(below);
-    all_calls(&rt, &mut tally, 9)
+    let mut pieces = Pieces::new(rt.alloc(), 9, 2, 2, 2)?;
+    let mut tally = GreyTally::lay(GreyTally::lay(pieces.heap()));
+    all_calls(&rt, &mut tally, 9);
+    Ok(())
 }
 
 // A tally that is laid over a grey cell counts it.
@@ -142,19 +166,14 @@ fn tally_counts_when_laid(rt: HostRuntime) {
 }
 
 #[test]
-fn shading_over_all(rt: HostRuntime) {
+fn shading_over_all(rt: HostRuntime) -> Result<(), Fail> {
     let mut memory = [OLD; 3];
     let mut again = [OLD; 4];
-    let mut links = [OLD_LINKS; 5];
-    let mut grey = [0xff; 1];
-    let mut mark = [0xff; 1];
-    let mut sweep = [0xff; 1];
-    let mut records = RecordsHeap::new(&mut memory);
-    shades(&rt, &mut records);
-    let mut tally = GreyTally::lay(RecordsHeap::new(&mut again));
-    shades(&rt, &mut tally);
-    let mut planes = PlanesHeap::new(&mut links, &mut grey, &mut mark, &mut sweep);
-    shades(&rt, &mut planes);
+    let mut pieces = Pieces::new(rt.alloc(), 5, 1, 1, 1)?;
+    shades(&rt, &mut RecordsHeap::new(&mut memory));
+    shades(&rt, &mut GreyTally::lay(RecordsHeap::new(&mut again)));
+    shades(&rt, &mut pieces.heap());
+    Ok(())
 }
 
 #[test]

@@ -5,7 +5,7 @@ use Rattle.cells.specs.declared.content.Content.TheVariants.{Nothing, Yarn, Cell
 use Rattle.cells.specs.declared.content.Joint.{Joint}
 use Rattle.cells.specs.declared.content.Joint.TheVariants.{Beside, Above}
 use Rattle.lines.specs.declared.cell.PatternCell.{PatternCell}
-use Rattle.lines.specs.Line.{Fields, header, cell, end, body, tabbed}
+use Rattle.lines.specs.Line.{Fields, header, cell, end, body}
 
 abbrev pub joint_text : Joint → List ℕ
 joint_text Beside = codes "b"
@@ -32,7 +32,3 @@ line_text f = body f ++ (10 ∷ [])
 -- a line of words and a count
 abbrev pub counted_text : List ℕ → ℕ → List ℕ
 counted_text words n = words ++ (decimal n ++ (10 ∷ []))
-
--- what stands in a cell line before its contents
-abbrev pub opening : Joint → List ℕ
-opening j = tabbed (codes "cell") (tabbed (joint_text j) [])

@@ -6,6 +6,8 @@ use Rattle.cells.specs.declared.content.Content.{Content}
 use Rattle.cells.specs.declared.content.Content.TheVariants.{Nothing, Yarn, Cell}
 use Rattle.cells.specs.declared.content.Joint.{Joint}
 use Rattle.cells.specs.declared.content.Joint.TheVariants.{Beside, Above}
+use Rattle.cells.specs.declared.cell.LinkRecord.{LinkRecord}
+use Rattle.cells.specs.declared.cell.Tag.TheVariants.{Used}
 use Rattle.lines.specs.declared.cell.PatternCell.{PatternCell}
 use Rattle.lines.specs.Line.{Fields, header, cell, end}
 
@@ -44,3 +46,11 @@ abbrev pub end_count : Fields → Option ℕ
 end_count (header version count) = None
 end_count (cell joint left right) = None
 end_count (end count) = number_in count
+
+-- the line of a cell with these links; the tag is in no line
+abbrev pub linked_line : LinkRecord → PatternCell
+linked_line links = record { joint = links.joint; left = links.left; right = links.right }
+
+-- the links of a used cell with this line
+abbrev pub used_links : PatternCell → LinkRecord
+used_links line = record { joint = line.joint; left = line.left; right = line.right; tag = Used }

@@ -1,10 +1,10 @@
 //! The fields of a line as values.
 ghost use Rattle.std.specs.Prelude.{◌≡◌};
 ghost use Rattle.lines.specs.Line.{fields_of};
-ghost use Rattle.lines.specs.Values.{by_letter, cell_values, content_in, end_count, header_numbers, joint_in};
+ghost use Rattle.lines.specs.Values.{by_letter, cell_values, content_in, end_count, header_numbers, joint_in, linked_line, used_links};
 
-use crate::line::{Line, same};
-use cells::{Content, Joint};
+use crate::line::Line;
+use cells::{Content, Joint, LinkRecord, Tag};
 use text::read_number;
 
 // A cell of a pattern. The cells that its contents name go by their numbers in the file.
@@ -15,36 +15,51 @@ pub struct PatternCell {
     pub right: Content,
 }
 
+// What the links of a cell say of the pattern; their tag is left out.
+impl From<LinkRecord> for PatternCell {
+    ghost from_gives = { λ links line. line ≡ linked_line links };
+
+    fn from(links: LinkRecord) -> Self {
+        PatternCell {
+            joint: links.joint,
+            left: links.left,
+            right: links.right,
+        }
+    }
+}
+
+impl PatternCell {
+    // The links of a used cell with this line.
+    pub fn used(self) -> LinkRecord
+        ensures { result ≡ used_links self }
+    {
+        LinkRecord {
+            joint: self.joint,
+            left: self.left,
+            right: self.right,
+            tag: Tag::Used,
+        }
+    }
+}
+
 fn read_joint(text: &[u8]) -> Option<Joint>
     ensures { result ≡ joint_in text.now }
 {
-    if same(text, b"b") {
-        Some(Joint::Beside)
-    } else if same(text, b"a") {
-        Some(Joint::Above)
-    } else {
-        None
-    }
+    let [letter] = text else {
+        return None;
+    };
+    Joint::try_from(*letter).ok()
 }
 
 // The content that a letter and what stands behind it are.
 fn by_letter(letter: u8, digits: &[u8]) -> Option<Content>
     ensures { result ≡ by_letter letter digits.now }
 {
-    if letter == b'-' {
-        return if digits.len() == 0 {
-            Some(Content::Nothing)
-        } else {
-            None
-        };
-    }
-    let number = read_number(digits)?;
-    if letter == b'y' {
-        Some(Content::Yarn(number))
-    } else if letter == b'c' {
-        Some(Content::Cell(number))
-    } else {
-        None
+    match letter {
+        b'-' => digits.is_empty().then_some(Content::Nothing),
+        b'y' => Some(Content::Yarn(read_number(digits)?)),
+        b'c' => Some(Content::Cell(read_number(digits)?)),
+        _ => None,
     }
 }
 

@@ -26,6 +26,7 @@ impl LineFault {
     }
 
     // The fault's number in the table of refusals.
+    // Stays: a number of that table, for whoever prints it; nothing is decided by it.
     pub fn number(&self) -> u8
         ensures { result ≡ line_number self.now }
     {
@@ -39,8 +40,7 @@ impl LineFault {
         ensures { result ≡ line_line self.now }
     {
         match *self {
-            LineFault::Form(line) => line,
-            LineFault::Range(line) => line,
+            LineFault::Form(line) | LineFault::Range(line) => line,
         }
     }
 }

@@ -1,6 +1,5 @@
 //! One line of an archive text, as fields that are parts of the text.
 ghost use Rattle.std.specs.Prelude.{◌≡◌, ◌↔◌, Some};
-ghost use Rattle.std.specs.Str.{bytes_eq};
 ghost use Rattle.text.specs.Cut.{parts_of};
 ghost use Rattle.lines.specs.Line.{Fields, IsLine, cell_in, end_in, fields_in, header_in, line_in, two_in};
 
@@ -23,12 +22,6 @@ pub enum Line<'a> {
     End {
         count: &'a [u8],
     },
-}
-
-pub(crate) fn same(a: &[u8], b: &[u8]) -> bool
-    ensures { result ≡ bytes_eq a.now b.now }
-{
-    a == b
 }
 
 // The two fields of a text that has just two.
@@ -67,18 +60,16 @@ fn end_fields<'a>(text: &'a [u8]) -> Option<Line<'a>>
 }
 
 // The line by its first field and the number of its fields.
+// Stays: apart from `Line::read` by docs/DECISIONS.md, "Laws stand on thin public functions".
 fn by_word<'a>(body: &'a [u8]) -> Option<Line<'a>>
     ensures { fields_in result ≡ line_in body.now }
 {
     let (word, fields) = cut_at(body, TAB)?;
-    if same(word, b"pattern") {
-        header_fields(fields)
-    } else if same(word, b"cell") {
-        cell_fields(fields)
-    } else if same(word, b"end") {
-        end_fields(fields)
-    } else {
-        None
+    match word {
+        b"pattern" => header_fields(fields),
+        b"cell" => cell_fields(fields),
+        b"end" => end_fields(fields),
+        _ => None,
     }
 }
 

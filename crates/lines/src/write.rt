@@ -1,11 +1,12 @@
 //! The lines of an archive text, written into a lent buffer at a place: a whole line where it fits, else nothing.
 ghost use Rattle.std.specs.Prelude.{◌≡◌, ◌+◌, ◌≤◌, length, decimal};
-ghost use Rattle.text.specs.Buffer.{length_put, put, written};
-ghost use Rattle.lines.specs.Text.{cell_fields, content_text, counted_text, end_fields, header_fields, line_text, opening};
+ghost use Rattle.text.specs.Buffer.{length_put};
+ghost use Rattle.text.specs.Writer.{Puts, PutsInRoom};
+ghost use Rattle.lines.specs.Text.{cell_fields, content_text, counted_text, end_fields, header_fields, joint_text, line_text};
 
 use crate::cell::PatternCell;
 use cells::{Content, Joint};
-use text::{has_room, number_length, write_number};
+use text::{Writer, number_length};
 
 // What stands in a header line before the count.
 const HEADER: &[u8] = b"pattern\t1\t";
@@ -13,44 +14,22 @@ const HEADER: &[u8] = b"pattern\t1\t";
 // What stands in an end line before the count.
 const END: &[u8] = b"end\t";
 
-// Writes bytes where there is room for them, and says where they end.
-fn put_bytes(buffer: &mut [u8], at: usize, bytes: &[u8]) -> usize
-    requires { at + length bytes.now ≤ length buffer.old }
-    ensures end { result ≡ at + length bytes.now }
-    ensures after { buffer.new ≡ written buffer.old at bytes.now }
-{
-    let end = at + bytes.len();
-    buffer[at..end].copy_from_slice(bytes);
-    end
-}
-
-// Writes a number where there is room for it, and says where it ends.
-fn put_number(buffer: &mut [u8], at: usize, n: u32) -> usize
-    requires { at + length (decimal n) ≤ length buffer.old }
-    ensures end { result ≡ at + length (decimal n) }
-    ensures after { buffer.new ≡ written buffer.old at (decimal n) }
-{
-    match write_number(buffer, at, n) {
-        Some(digits) => at + digits,
-        None => at,
-    }
-}
-
-// Writes a content where there is room for it, and says where it ends.
-fn put_content(buffer: &mut [u8], at: usize, content: Content) -> usize
-    requires { at + length (content_text content) ≤ length buffer.old }
-    ensures end { result ≡ at + length (content_text content) }
-    ensures after { buffer.new ≡ written buffer.old at (content_text content) }
+// Writes a content where there is room for it.
+// Stays: a Display gives no length beforehand, which the writers of lines ask first, and would need an impl of fmt::Write.
+fn put_content(writer: &mut Writer, content: Content)
+    ensures { PutsInRoom writer.old (content_text content) writer.new }
 {
     match content {
-        Content::Nothing => put_bytes(buffer, at, b"-"),
+        Content::Nothing => {
+            writer.bytes(b"-");
+        }
         Content::Yarn(y) => {
-            let digits = put_bytes(buffer, at, b"y");
-            put_number(buffer, digits, y)
+            writer.bytes(b"y");
+            writer.number(y);
         }
         Content::Cell(k) => {
-            let digits = put_bytes(buffer, at, b"c");
-            put_number(buffer, digits, k)
+            writer.bytes(b"c");
+            writer.number(k);
         }
     }
 }
@@ -62,12 +41,12 @@ fn content_length(content: Content) -> usize
 {
     match content {
         Content::Nothing => 1,
-        Content::Yarn(y) => 1 + number_length(y),
-        Content::Cell(k) => 1 + number_length(k),
+        Content::Yarn(n) | Content::Cell(n) => 1 + number_length(n),
     }
 }
 
 // How many bytes a line of words and a count is written in.
+#[tactic(auto, using(crate::proofs::Lengths::counted_length))]
 fn counted_length(words: &[u8], count: u32) -> usize
     requires { length words.now ≤ 10 }
     ensures bytes { result ≡ length (counted_text words.now count) }
@@ -77,28 +56,30 @@ fn counted_length(words: &[u8], count: u32) -> usize
 }
 
 // Writes a line of words and a count where there is room for it.
-fn put_counted(buffer: &mut [u8], at: usize, words: &[u8], count: u32)
-    requires { at + length (counted_text words.now count) ≤ length buffer.old }
-    ensures { buffer.new ≡ written buffer.old at (counted_text words.now count) }
+fn put_counted(writer: &mut Writer, words: &[u8], count: u32)
+    ensures { PutsInRoom writer.old (counted_text words.now count) writer.new }
 {
-    let number = put_bytes(buffer, at, words);
-    let end = put_number(buffer, number, count);
-    put_bytes(buffer, end, b"\n");
+    writer.bytes(words);
+    writer.number(count);
+    writer.bytes(b"\n");
 }
 
-// Writes a line of words and a count from `at` on, and answers its length; nothing where the room is short.
-fn write_counted(buffer: &mut [u8], at: usize, words: &[u8], count: u32) -> Option<usize>
+// Writes a line of words and a count, and answers its length; nothing where the room is short.
+// Stays: a length, a test of the room and the writing, for the reason at `Writer::number` of `text`; so in `write_cell`.
+fn write_counted(writer: &mut Writer, words: &[u8], count: u32) -> Option<usize>
     requires { length words.now ≤ 10 }
-    ensures answer { result ≡ length_put buffer.old at (counted_text words.now count) }
-    ensures after { buffer.new ≡ put buffer.old at (counted_text words.now count) }
+    ensures answer { result ≡ length_put writer.old.buffer.now writer.old.at (counted_text words.now count) }
+    ensures puts { Puts writer.old (counted_text words.now count) writer.new }
 {
     let length = counted_length(words, count);
-    if !has_room(buffer, at, length) {
+    if !writer.has_room(length) {
         return None;
     }
-    put_counted(buffer, at, words, count);
+    put_counted(writer, words, count);
     Some(length)
 }
+
+// Stays: the functions of a header line and of an end line are one call of a common one each; their promises name two lines.
 
 // How many bytes the header line of `count` cells is written in.
 pub fn header_length(count: u32) -> usize
@@ -108,22 +89,20 @@ pub fn header_length(count: u32) -> usize
     counted_length(HEADER, count)
 }
 
-// Writes the header line of `count` cells from `at` on, and answers its length; nothing where the room is short.
-pub fn write_header(buffer: &mut [u8], at: usize, count: u32) -> Option<usize>
-    ensures answer { result ≡ length_put buffer.old at (line_text (header_fields count)) }
-    ensures after { buffer.new ≡ put buffer.old at (line_text (header_fields count)) }
+// Writes the header line of `count` cells, and answers its length; nothing where the room is short.
+pub fn write_header(writer: &mut Writer, count: u32) -> Option<usize>
+    ensures answer { result ≡ length_put writer.old.buffer.now writer.old.at (line_text (header_fields count)) }
+    ensures puts { Puts writer.old (line_text (header_fields count)) writer.new }
 {
-    write_counted(buffer, at, b"pattern\t1\t", count)
+    write_counted(writer, HEADER, count)
 }
 
-// What stands in a cell line before its contents.
-fn cell_opening(joint: Joint) -> &'static [u8]
-    ensures { result.now ≡ opening joint }
+// The text of a joint is its letter.
+#[tactic(auto, using(crate::proofs::Lengths::joint_letter))]
+fn joint_text(joint: Joint) -> [u8; 1]
+    ensures { result ≡ joint_text joint }
 {
-    match joint {
-        Joint::Beside => b"cell\tb\t",
-        Joint::Above => b"cell\ta\t",
-    }
+    [u8::from(joint)]
 }
 
 // How many bytes the line of a cell is written in.
@@ -136,27 +115,28 @@ pub fn cell_length(cell: PatternCell) -> usize
 }
 
 // Writes the line of a cell where there is room for it.
-fn put_cell(buffer: &mut [u8], at: usize, cell: PatternCell)
-    requires { at + length (line_text (cell_fields cell)) ≤ length buffer.old }
-    ensures { buffer.new ≡ written buffer.old at (line_text (cell_fields cell)) }
+fn put_cell(writer: &mut Writer, cell: PatternCell)
+    ensures { PutsInRoom writer.old (line_text (cell_fields cell)) writer.new }
 {
-    let left = put_bytes(buffer, at, cell_opening(cell.joint));
-    let tab = put_content(buffer, left, cell.left);
-    let right = put_bytes(buffer, tab, b"\t");
-    let end = put_content(buffer, right, cell.right);
-    put_bytes(buffer, end, b"\n");
+    writer.bytes(b"cell\t");
+    writer.bytes(&joint_text(cell.joint));
+    writer.bytes(b"\t");
+    put_content(writer, cell.left);
+    writer.bytes(b"\t");
+    put_content(writer, cell.right);
+    writer.bytes(b"\n");
 }
 
-// Writes the line of a cell from `at` on, and answers its length; nothing where the room is short.
-pub fn write_cell(buffer: &mut [u8], at: usize, cell: PatternCell) -> Option<usize>
-    ensures answer { result ≡ length_put buffer.old at (line_text (cell_fields cell)) }
-    ensures after { buffer.new ≡ put buffer.old at (line_text (cell_fields cell)) }
+// Writes the line of a cell, and answers its length; nothing where the room is short.
+pub fn write_cell(writer: &mut Writer, cell: PatternCell) -> Option<usize>
+    ensures answer { result ≡ length_put writer.old.buffer.now writer.old.at (line_text (cell_fields cell)) }
+    ensures puts { Puts writer.old (line_text (cell_fields cell)) writer.new }
 {
     let length = cell_length(cell);
-    if !has_room(buffer, at, length) {
+    if !writer.has_room(length) {
         return None;
     }
-    put_cell(buffer, at, cell);
+    put_cell(writer, cell);
     Some(length)
 }
 
@@ -168,10 +148,10 @@ pub fn end_length(count: u32) -> usize
     counted_length(END, count)
 }
 
-// Writes the end line of `count` cells from `at` on, and answers its length; nothing where the room is short.
-pub fn write_end(buffer: &mut [u8], at: usize, count: u32) -> Option<usize>
-    ensures answer { result ≡ length_put buffer.old at (line_text (end_fields count)) }
-    ensures after { buffer.new ≡ put buffer.old at (line_text (end_fields count)) }
+// Writes the end line of `count` cells, and answers its length; nothing where the room is short.
+pub fn write_end(writer: &mut Writer, count: u32) -> Option<usize>
+    ensures answer { result ≡ length_put writer.old.buffer.now writer.old.at (line_text (end_fields count)) }
+    ensures puts { Puts writer.old (line_text (end_fields count)) writer.new }
 {
-    write_counted(buffer, at, b"end\t", count)
+    write_counted(writer, END, count)
 }

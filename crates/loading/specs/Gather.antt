@@ -1,15 +1,7 @@
 -- The first pass of a load: the front of the free list, told in a table.
 use Rattle.std.specs.Prelude.{◌≡◌, ℕ, ◌<◌, ◌≤◌, List, ◌++◌, length, take, drop, slice_index}
-use Rattle.cells.specs.declared.content.Content.{Content}
-use Rattle.cells.specs.declared.content.Content.TheVariants.{Nothing, Yarn, Cell}
 use Rattle.cells.specs.Cells.{Cells}
 use Rattle.model.specs.FreeList.{IsFreeList}
-
--- the cell that a content names; 0 where it names none
-abbrev pub cell_named : Content → ℕ
-cell_named Nothing = 0
-cell_named (Yarn y) = 0
-cell_named (Cell i) = i
 
 -- The free list begins at `front`, and has `count` cells or more; the table has room for so many.
 pub record Listed (cells : Cells) (free : List ℕ) (front count : ℕ) (places : List ℕ) : Type 0 where

@@ -10,13 +10,12 @@ use Rattle.model.specs.Calls.{after_all}
 use Rattle.model.specs.Collector.{can_turn}
 use Rattle.model.specs.History.{deeds, history}
 use Rattle.model.specs.Invariant.{Dark, Invariant, IsBlack}
-use Rattle.model.specs.Laws.{CollectorLeavesReach, FreeListInOrder, HeapRefusesNothing, InvariantKept, ReachedIsUsed, UnitsContainTurn}
+use Rattle.model.specs.Laws.{FreeListInOrder, HeapRefusesNothing, InvariantKept, ReachedIsUsed, UnitsContainTurn}
 use Rattle.model.specs.State.{State, opened, size_of}
 use Rattle.model.proofs.Bound.{span_has_turn}
 use Rattle.model.proofs.Histories.{all_keep, call_keeps, history_run}
 use Rattle.model.proofs.Moves.{can_turn_parts}
 use Rattle.model.proofs.Opened.{opened_keeps}
-use Rattle.model.proofs.Reached.{mark_reach, sweep_reach, turn_reach}
 use Rattle.model.proofs.Runs.{first_in_first_out, reached_kept}
 
 pub invariant_kept : InvariantKept
@@ -24,13 +23,6 @@ invariant_kept = record { of_opened = opened_keeps; by_call = call_keeps; by_cal
 
 pub reached_is_used : ReachedIsUsed
 reached_is_used s v i r = let k = reached_kept s v i r in (k.0, k.1)
-
-pub collector_leaves_reach : CollectorLeavesReach
-collector_leaves_reach s v =
-    let m = mark_reach s in
-    let w = sweep_reach s v in
-    let t = turn_reach s in
-    (λ i. (m.onward i, m.back i), λ i. (w.onward i, w.back i), λ i. (t.onward i, t.back i))
 
 pub units_contain_turn : UnitsContainTurn
 units_contain_turn s v = span_has_turn s v

@@ -13,6 +13,8 @@ pub enum MarkAnswer {
 }
 
 // The answer of any call.
+// Stays: take answers a pair of numbers, sweep a cell and a flag, save the count and the length, as the rules of the
+// calls have it.
 #[derive(Clone, Copy, Debug, PartialEq)]
 pub enum Answer {
     // yarn, drop, copy, follow, tie and turn

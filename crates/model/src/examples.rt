@@ -1,13 +1,15 @@
 //! The worked examples, each shown by computing with the definitions.
 ghost use Rattle.std.specs.Prelude.{◌≡◌};
 ghost use Rattle.model.specs.Calls.{after_all, answer, answers};
-ghost use Rattle.model.specs.Examples.{first_six, first_told, last_four, last_told, one_cell, saved_bytes, saved_told, seventh, seventh_told, three_cells};
+ghost use Rattle.model.specs.Examples.{first_six, last_four, one_cell, saved_bytes, seventh, three_cells};
 
 use crate::answer::Answer;
 use crate::fault::StoreFault;
 
-fn told_first() -> [Answer; 6]
-    ensures { result ≡ first_told }
+// What the first six calls on three cells and two holds answer.
+#[tactic(auto, using(crate::proofs::Computed::first_six_lem))]
+pub fn first_answers() -> [Answer; 6]
+    ensures { result ≡ answers first_six three_cells }
 {
     [
         Answer::Done(Ok(())),
@@ -19,41 +21,26 @@ fn told_first() -> [Answer; 6]
     ]
 }
 
-// What the first six calls on three cells and two holds answer.
-pub fn first_answers() -> [Answer; 6]
-    ensures { result ≡ answers first_six three_cells }
-{
-    told_first()
-}
-
-fn told_seventh() -> Answer
-    ensures { result ≡ seventh_told }
+// What the save after them answers,
+#[tactic(auto, using(crate::proofs::Computed::the_seventh))]
+pub fn saved_answer() -> Answer
+    ensures { result ≡ answer seventh (after_all first_six three_cells) }
 {
     Answer::Saved(Ok((2, 43)))
 }
 
-// What the save after them answers,
-pub fn saved_answer() -> Answer
-    ensures { result ≡ answer seventh (after_all first_six three_cells) }
-{
-    told_seventh()
-}
-
-fn told_text() -> [u8; 43]
-    ensures { result ≡ saved_told }
+// .. and the 43 bytes that it writes.
+#[tactic(auto, using(crate::proofs::Computed::saved_bytes_lem))]
+pub fn saved_text() -> [u8; 43]
+    ensures { result ≡ saved_bytes }
 {
     *b"pattern\t1\t2\ncell\tb\tc1\tc1\ncell\tb\ty5\t-\nend\t2\n"
 }
 
-// .. and the 43 bytes that it writes.
-pub fn saved_text() -> [u8; 43]
-    ensures { result ≡ saved_bytes }
-{
-    told_text()
-}
-
-fn told_last() -> [Answer; 4]
-    ensures { result ≡ last_told }
+// What the four calls on one cell and one hold answer.
+#[tactic(auto, using(crate::proofs::Computed::last_four_lem))]
+pub fn last_answers() -> [Answer; 4]
+    ensures { result ≡ answers last_four one_cell }
 {
     [
         Answer::Took(Ok((0, 3))),
@@ -61,11 +48,4 @@ fn told_last() -> [Answer; 4]
         Answer::Done(Ok(())),
         Answer::Took(Ok((0, 4))),
     ]
-}
-
-// What the four calls on one cell and one hold answer.
-pub fn last_answers() -> [Answer; 4]
-    ensures { result ≡ answers last_four one_cell }
-{
-    told_last()
 }

@@ -2,8 +2,10 @@
 ghost use Rattle.std.specs.Prelude.{◌≡◌};
 ghost use Rattle.model.specs.Fault.{load_layer, load_line, load_number, open_number, store_number};
 ghost use Rattle.model.specs.declared.fault.LoadFault.TheVariants.{OfFile, OfStore};
+ghost use Rattle.model.specs.declared.fault.StoreFault.TheVariants.{NoJoint};
 
 use archive::{FileFault, Layer};
+use cells::UnknownJoint;
 
 // What the check before opening finds.
 #[derive(Clone, Copy, Debug, PartialEq)]
@@ -53,6 +55,7 @@ pub enum LoadFault {
 
 impl OpenFault {
     // The fault's number in the table of refusals.
+    // Stays: a number of that table, for whoever prints it; here and in the other two enums nothing is decided by it.
     pub fn number(&self) -> u8
         ensures { result ≡ open_number self.now }
     {
@@ -79,6 +82,14 @@ impl StoreFault {
             StoreFault::ShortBuffer => 16,
             StoreFault::ShortTable => 17,
         }
+    }
+}
+
+impl From<UnknownJoint> for StoreFault {
+    ghost from_gives = { λ e r. r ≡ NoJoint };
+
+    fn from(_e: UnknownJoint) -> StoreFault {
+        Self::NoJoint
     }
 }
 
@@ -120,6 +131,7 @@ impl LoadFault {
     }
 
     // Its line, counted from 1; 0 where the store refuses.
+    // Stays: what a load tells has a line in any case, and of a store's refusal that is line 0.
     pub fn line(&self) -> usize
         ensures { result ≡ load_line self.now }
     {

@@ -19,10 +19,9 @@ pub enum Stage {
 fn behind_hold(hold_count: u32, hold: u32) -> Stage
     ensures { result ≡ next_stage hold_count hold }
 {
-    if hold < hold_count && hold + 1 < hold_count {
-        Stage::AtHold(hold + 1)
-    } else {
-        Stage::AtCell(0)
+    match hold.checked_add(1) {
+        Some(next) if next < hold_count => Stage::AtHold(next),
+        _ => Stage::AtCell(0),
     }
 }
 
@@ -42,7 +41,7 @@ impl Stage {
                 *self = Stage::AtCell(cell);
                 MarkAnswer::Cell(cell)
             }
-            (_, _) => {
+            _ => {
                 *self = Stage::Ended;
                 MarkAnswer::Ended
             }

@@ -1,6 +1,8 @@
 -- What stands in a list of numbers, and how often.
 use Rattle.std.proofs.Common.{◌≡◌, ℕ, zero, suc, ◌+◌, ◌<◌, ◌≤◌, true, false, eqb, ◌⊎◌, List, [], ◌∷◌, ◌++◌, map, length, get_or, sym, refl, ap, ◌∙◌, subst, inl, inr, arith}
+use Rattle.std.specs.List.{range_with_len}
 use Rattle.std.proofs.lemmas.List.{length-append}
+use Rattle.std.proofs.lemmas.List.FromFn.{get_or-range_with_len, length-range_with_len}
 use Rattle.std.proofs.lemmas.Bool.{both_ways, cases_Bool, cases_eq, eq-eqb, eqb-true, or_cases, or_left, or_right}
 use Rattle.archive.specs.Pattern.{among}
 use Rattle.numbering.specs.Lists.{In, Once, count_from}
@@ -111,10 +113,14 @@ few_within (x ∷ xs) ys once within =
       | inr p ↦ elim p [ inl e ↦ absurd (once.0 (subst (λ i. In i xs) e h)) | inr r ↦ in_right before after c r ]
     ]
 
--- The numbers from k on, n of them: how many, which, where, and each once.
+-- The numbers from k on, n of them: as the library spells them,
+count_range : (k n : ℕ) → count_from k n ≡ range_with_len k n
+count_range k zero = refl
+count_range k (suc n) = ap (λ l. k ∷ l) (count_range (suc k) n ∙ ap (λ i. range_with_len i n) (let next : suc k ≡ k + 1 = omega arith in next))
+
+-- how many, which, where, and each once.
 pub length_count : (k n : ℕ) → length (count_from k n) ≡ n
-length_count k zero = refl
-length_count k (suc n) = ap suc (length_count (suc k) n)
+length_count k n = ap length (count_range k n) ∙ length-range_with_len k n
 
 pub in_count : (k n c : ℕ) → In c (count_from k n) → (k ≤ c) × (c < k + n)
 in_count k zero c h = absurd h
@@ -126,9 +132,7 @@ count_in k zero c low high = absurd (omega arith)
 count_in k (suc n) c low high = elim (cases_eq c k) [ inl e ↦ inl e | inr e ↦ inr (count_in (suc k) n c (omega arith) (omega arith)) ]
 
 pub count_at : (k n j : ℕ) → j < n → get_or (count_from k n) j 0 ≡ k + j
-count_at k zero j h = absurd (omega arith)
-count_at k (suc n) zero h = omega arith
-count_at k (suc n) (suc j) h = count_at (suc k) n j (omega arith) ∙ omega arith
+count_at k n j h = ap (λ l. get_or l j 0) (count_range k n) ∙ get_or-range_with_len k n j 0 h
 
 pub count_once : (k n : ℕ) → Once (count_from k n)
 count_once k zero = tt

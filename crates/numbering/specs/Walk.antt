@@ -47,6 +47,10 @@ renamed name Nothing = Nothing
 renamed name (Yarn y) = Yarn y
 renamed name (Cell c) = Cell (name c)
 
+-- a line whose contents name another cell for each cell
+abbrev pub renamed_line : (ℕ → ℕ) → PatternCell → PatternCell
+renamed_line name line = record { joint = line.joint; left = renamed name line.left; right = renamed name line.right }
+
 -- cell c as a line of the file
 abbrev pub line_of : Cells → List ℕ → ℕ → PatternCell
 line_of cells order c = record { joint = cells.joint c; left = renamed (number_of order) (cells.left c); right = renamed (number_of order) (cells.right c) }

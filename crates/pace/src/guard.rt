@@ -42,10 +42,20 @@ impl PaceRecord {
             earlier: self.current,
         };
     }
+
+    // Begins a task with a pace of its own.
+    pub fn begin_task(&mut self, pace: Pace) -> PaceGuard<'_>
+        ensures same_record { result.paces.ghost_name ≡ self.entry.ghost_name }
+        ensures current { result.paces.now.current ≡ pace }
+        ensures earlier { result.paces.now.earlier ≡ self.old.current }
+    {
+        self.enter(pace);
+        PaceGuard { paces: self }
+    }
 }
 
 // A task (a batch of allocations) runs while this lives; when it goes, on whatever way the task ends, the pace that
-// was kept is in force again. Enter the task's pace first, then build the guard in place over the record.
+// was kept is in force again.
 pub struct PaceGuard<'a> {
     pub paces: &'a mut PaceRecord,
 }

@@ -5,6 +5,7 @@ mod calls;
 
 // A pace: the limits of allocation-driven pacing. A take that finds a free cell runs at least `least` and at most
 // `most` units, where a unit is one increment of collector work.
+// Stays: no `impl Model`, since a struct of two numbers with the fact that binds them is the project's form for a pace.
 #[derive(Clone, Copy, Debug, PartialEq)]
 pub struct Pace {
     least: u32,

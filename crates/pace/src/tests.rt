@@ -34,13 +34,13 @@ fn gives_units(rt: HostRuntime) {
 
 // The units of one take that finds two of its store's cells free, at a pace of its own; none where the task stops
 // before it.
+// Stays: 0 for none, the value that the tests ask for.
 fn under_pace(paces: &mut PaceRecord, pace: Pace, stop: bool) -> u32
     ensures back { paces.new.current ≡ paces.old.current }
     ensures stopped { stop ≡ true → result ≡ 0 }
     ensures ran { stop ≡ false → result ≡ units_for (pace_of pace) 6 2 }
 {
-    paces.enter(pace);
-    let guard = PaceGuard { paces };
+    let guard = paces.begin_task(pace);
     if stop {
         return 0;
     }

@@ -1,66 +1,28 @@
 -- Single bits of a number and of a plane.
-use Rattle.std.proofs.Common.{◌≡◌, ℕ, suc, ◌+◌, ◌-◌, ◌*◌, ◌/◌, ◌%◌, ◌^◌, ◌<◌, ◌≤◌, Bool, true, false, eqb, ◌≢◌, ◌⊎◌, List, length, get_or, set, sym, ap, ◌∙◌, inl, inr, arith}
-use lib.Bits.{bit_or, bit_xor, or_zero_r, shifted_even, xor_zero_r}
-use Rattle.std.proofs.lemmas.Nat.{div_below, or_mod, or_shr, pow-add, pow_below, shl-shr, xor_mod, xor_shr}
+use Rattle.std.proofs.Common.{◌≡◌, ℕ, ◌+◌, ◌*◌, ◌/◌, ◌%◌, ◌^◌, ◌<◌, ◌≤◌, Bool, true, false, eqb, ◌≢◌, List, length, get_or, set, sym, ap, ◌∙◌, inl, inr, arith}
+use lib.Bits.{bit_or, bit_xor}
+use Rattle.std.proofs.lemmas.Nat.Bits.{bit_at-lt, bit_at-pow_other, bit_at-pow_same, bit_at_or, bit_at_xor}
 use Rattle.std.proofs.lemmas.List.{get_or-set_other, get_or-set_same, length-set}
-use Rattle.std.proofs.lemmas.Bool.{cases_eq, cases_order, eq-eqb}
+use Rattle.std.proofs.lemmas.Bool.{cases_eq, eq-eqb}
 use Rattle.planes.specs.Bits.{Cleared, SameBits, bit_at, bit_of, put_bit, with_bit}
 
--- bit j of a | b, and of a ^ b
-or_bit : (a b j : ℕ) → bit_of (bit_or a b) j ≡ bit_or (bit_of a j) (bit_of b j)
-or_bit a b j = ap (λ n. n % 2) (or_shr a b j) ∙ or_mod (a / 2 ^ j) (b / 2 ^ j) 1
-
-xor_bit : (a b j : ℕ) → bit_of (bit_xor a b) j ≡ bit_xor (bit_of a j) (bit_of b j)
-xor_bit a b j = ap (λ n. n % 2) (xor_shr a b j) ∙ xor_mod (a / 2 ^ j) (b / 2 ^ j) 1
-
--- bit j of 2 ^ k is 1 exactly at j = k
-power_same : (k : ℕ) → bit_of (2 ^ k) k ≡ 1
-power_same k = ap (λ n. n / 2 ^ k % 2) (sym (omega arith)) ∙ ap (λ n. n % 2) (shl-shr 1 k)
-
-power_below : (d j : ℕ) → bit_of (2 ^ (suc d + j)) j ≡ 0
-power_below d j =
-    ap (λ n. n / 2 ^ j % 2) (pow-add 2 (suc d) j) ∙ ap (λ n. n % 2) (shl-shr (2 ^ suc d) j)
-    ∙ ap (λ n. n % 2) (sym (omega arith)) ∙ shifted_even 1 d
-
-power_above : (j k : ℕ) → k < j → bit_of (2 ^ k) j ≡ 0
-power_above j k h =
-    let p : 2 ^ k < 2 ^ j = pow_below k j h in
-    let z : 2 ^ k / 2 ^ j < 1 = div_below (2 ^ k) (2 ^ j) 1 (omega arith) (omega arith) in
-    let e : 2 ^ k / 2 ^ j ≡ 0 = omega arith in
-    ap (λ n. n % 2) e
-
-power_other : (j k : ℕ) → j ≢ k → bit_of (2 ^ k) j ≡ 0
-power_other j k ne = elim (cases_order j k) [
-  | inl e ↦ absurd (ne e)
-  | inr o ↦ elim o [
-    | inl h ↦ let e : k ≡ suc (k - j - 1) + j = omega arith in ap (λ n. bit_of (2 ^ n) j) e ∙ power_below (k - j - 1) j
-    | inr h ↦ power_above j k h
-  ]
-]
-
-zero_or_one : (n k : ℕ) → (bit_of n k ≡ 0) ⊎ (bit_of n k ≡ 1)
-zero_or_one n k = elim (cases_eq (bit_of n k) 0) [ inl e ↦ inl e | inr ne ↦ inr (omega arith) ]
-
+-- bit k of a number where it was raised, and the others
 raised_same : (n k : ℕ) → bit_of (bit_or n (2 ^ k)) k ≡ 1
-raised_same n k = or_bit n (2 ^ k) k ∙ elim (zero_or_one n k) [
-  | inl e ↦ simp (e, power_same k)
-  | inr e ↦ simp (e, power_same k)
-]
+raised_same n k = omega (arith, bit_at_or n (2 ^ k) k, bit_at-pow_same k, bit_at-lt n k)
 
 raised_other : (n k j : ℕ) → j ≢ k → bit_of (bit_or n (2 ^ k)) j ≡ bit_of n j
-raised_other n k j ne = or_bit n (2 ^ k) j ∙ ap (bit_or (bit_of n j)) (power_other j k ne) ∙ or_zero_r (bit_of n j)
+raised_other n k j ne = omega (arith, bit_at_or n (2 ^ k) j, bit_at-pow_other k j ne)
 
+-- the same where it was set or cleared
 with_same : (n k : ℕ) (on : Bool) → eqb (bit_of (with_bit n k on) k) 1 ≡ on
 with_same n k true = eq-eqb (bit_of (bit_or n (2 ^ k)) k) 1 (raised_same n k)
 with_same n k false =
-    let e : bit_of (bit_xor (bit_or n (2 ^ k)) (2 ^ k)) k ≡ 0 = xor_bit (bit_or n (2 ^ k)) (2 ^ k) k ∙ simp (raised_same n k, power_same k) in
+    let e : bit_of (bit_xor (bit_or n (2 ^ k)) (2 ^ k)) k ≡ 0 = omega (arith, bit_at_xor (bit_or n (2 ^ k)) (2 ^ k) k, raised_same n k, bit_at-pow_same k) in
     ap (λ x. eqb x 1) e
 
 with_other : (n k j : ℕ) (on : Bool) → j ≢ k → bit_of (with_bit n k on) j ≡ bit_of n j
 with_other n k j true ne = raised_other n k j ne
-with_other n k j false ne =
-    xor_bit (bit_or n (2 ^ k)) (2 ^ k) j ∙ ap (bit_xor (bit_of (bit_or n (2 ^ k)) j)) (power_other j k ne)
-    ∙ xor_zero_r (bit_of (bit_or n (2 ^ k)) j) ∙ raised_other n k j ne
+with_other n k j false ne = omega (arith, bit_at_xor (bit_or n (2 ^ k)) (2 ^ k) j, bit_at-pow_other k j ne, raised_other n k j ne, bit_at-lt n j)
 
 -- a bit that was put, the others, and the length
 pub put_same : (p : List ℕ) (i : ℕ) (on : Bool) → i < 8 * length p → bit_at (put_bit p i on) i ≡ on

@@ -1,21 +1,15 @@
 -- Cells in records of links and three planes of bits.
-use Rattle.std.specs.Prelude.{ℕ, ◌*◌, ◌≤◌, min, Bool, true, false, cond, List, length, nat_lt, slice_index_or}
-use Rattle.cells.specs.declared.content.Content.TheVariants.{Nothing}
-use Rattle.cells.specs.declared.content.Joint.TheVariants.{Beside}
-use Rattle.cells.specs.declared.cell.Tag.TheVariants.{Free}
+use Rattle.std.specs.Prelude.{ℕ, ◌*◌, min, Bool, true, false, cond, length, nat_lt, slice_index_or}
 use Rattle.cells.specs.declared.cell.MarkColour.{MarkColour}
 use Rattle.cells.specs.declared.cell.MarkColour.TheVariants as mark
 use Rattle.cells.specs.declared.cell.SweepColour.{SweepColour}
 use Rattle.cells.specs.declared.cell.SweepColour.TheVariants as sweep
+use Rattle.cells.specs.declared.cell.LinkRecord.{LinkRecord}
 use Rattle.cells.specs.declared.cell.CellRecord.{CellRecord}
 use Rattle.cells.specs.Cells.{Cells, cells_of}
-use Rattle.cells.specs.Record.{new_cell}
-use Rattle.planes.specs.declared.links.LinkRecord.{LinkRecord}
+use Rattle.cells.specs.Record.{new_cell, new_links}
+use Rattle.planes.specs.declared.memory.PlanesMemory.{PlanesMemory}
 use Rattle.planes.specs.Bits.{bit_at}
-
--- the record of a new cell: free, joint `b`, both contents nothing
-abbrev pub new_links : LinkRecord
-new_links = record { joint = Beside; left = Nothing; right = Nothing; tag = Free }
 
 -- the bits of a colour
 
@@ -38,32 +32,24 @@ sweep_of black = cond black sweep.Black sweep.White
 
 -- a cell from its record and its bits of the grey, the mark and the sweep plane
 abbrev pub joined_cell : LinkRecord → Bool → Bool → Bool → CellRecord
-joined_cell l g m s = record { joint = l.joint; left = l.left; right = l.right; tag = l.tag; mark = mark_of g m; sweep = sweep_of s }
+joined_cell l g m s = record { links = l; mark = mark_of g m; sweep = sweep_of s }
 
--- cell i of four pieces of memory
-abbrev pub cell_from : List LinkRecord → List ℕ → List ℕ → List ℕ → ℕ → CellRecord
-cell_from links grey mark sweep i = joined_cell (slice_index_or links i new_links) (bit_at grey i) (bit_at mark i) (bit_at sweep i)
+-- cell i of a lent memory
+abbrev pub cell_from : PlanesMemory → ℕ → CellRecord
+cell_from m i = joined_cell (slice_index_or m.links.now i new_links) (bit_at m.grey.now i) (bit_at m.mark.now i) (bit_at m.sweep.now i)
 
 -- a table of cells that is new from n on
 abbrev pub clipped : ℕ → (ℕ → CellRecord) → ℕ → CellRecord
 clipped n table i = cond (nat_lt i n) (table i) new_cell
 
--- the first n cells of four pieces of memory
-abbrev pub planes_front : ℕ → List LinkRecord → List ℕ → List ℕ → List ℕ → Cells
-planes_front n links grey mark sweep = cells_of n (clipped n (cell_from links grey mark sweep))
+-- the first n cells of a lent memory
+abbrev pub planes_front : ℕ → PlanesMemory → Cells
+planes_front n m = cells_of n (clipped n (cell_from m))
 
 -- the smallest of the record count, eight times each plane's length, and 16,384
-abbrev pub planes_size : ℕ → ℕ → ℕ → ℕ → ℕ
-planes_size links grey mark sweep = min links (min (8 * grey) (min (min (8 * mark) (8 * sweep)) 16384))
+abbrev pub planes_size : PlanesMemory → ℕ
+planes_size m = min (length m.links.now) (min (8 * length m.grey.now) (min (min (8 * length m.mark.now) (8 * length m.sweep.now)) 16384))
 
--- n cells have room in pieces of memory of these lengths
-pub record Room (n links grey mark sweep : ℕ) : Type 0 where
-  pub few : n ≤ 16384
-  pub in_links : n ≤ links
-  pub in_grey : n ≤ 8 * grey
-  pub in_mark : n ≤ 8 * mark
-  pub in_sweep : n ≤ 8 * sweep
-
--- what four pieces of memory mean
-abbrev pub planes_cells : List LinkRecord → List ℕ → List ℕ → List ℕ → Cells
-planes_cells links grey mark sweep = planes_front (planes_size (length links) (length grey) (length mark) (length sweep)) links grey mark sweep
+-- what a lent memory means
+abbrev pub planes_cells : PlanesMemory → Cells
+planes_cells m = planes_front (planes_size m) m

@@ -1,7 +1,9 @@
 //! Planes of bits: bit i is bit i mod 8, counted from the lowest, of byte i div 8.
-ghost use Rattle.std.specs.Prelude.{◌≡◌, ℕ, ◌*◌, ◌<◌, ◌≤◌, length};
+// Stays: functions over a slice and not methods of a plane, since what each asks bounds the number that is passed; a
+// struct around one slice would say no more.
+ghost use Rattle.std.specs.Prelude.{◌≡◌, ◌*◌, ◌<◌, ◌≤◌, length};
 ghost use Rattle.planes.specs.Bits.{Cleared, FirstSet, bit_at, put_bit, with_bit};
-ghost use Rattle.planes.specs.Planes.{is_mark_black, is_sweep_black};
+ghost use Rattle.planes.specs.Planes.{mark_of, sweep_of};
 
 use cells::{MarkColour, SweepColour};
 
@@ -32,6 +34,8 @@ pub(crate) fn set_bit(plane: &mut [u8], i: usize, on: bool)
 }
 
 // Clears the bits below n, and no other.
+// Stays: a `for` over the numbers of the bits, since bits are no elements that an iterator gives.
+#[tactic(auto, using(crate::proofs::Bitwise::clear_more))]
 pub(crate) fn clear_bits(plane: &mut [u8], n: usize)
     requires { n ≤ 8 * length plane.old }
     ensures { Cleared n plane.old plane.new }
@@ -43,13 +47,15 @@ pub(crate) fn clear_bits(plane: &mut [u8], n: usize)
 
 // The first bit that is set, from `from` on and below `size`. Bits at the size and above are never
 // reported, not even those in the byte of the last one below it.
-pub(crate) fn first_set(plane: &[u8], from: usize, size: usize) -> Option<usize>
+// Stays: two nested loops over bytes and bits, left by a label with what was found, by docs/HEAPS.md and a rule of the
+// project (docs/DECISIONS.md, Forms that the project fixes).
+pub(crate) fn first_set(plane: &[u8], from: u32, size: u32) -> Option<u32>
     requires { (size ≤ 8 * length plane.now) × (size ≤ 16384) }
     ensures { FirstSet plane.now from size result }
 {
-    let found = 'search: {
-        for at in from / 8..(size + 7) / 8 {
-            let byte = plane[at];
+    'search: {
+        for at in from / 8..size.div_ceil(8) {
+            let byte = plane[at as usize];
             for k in 0..8 {
                 let i = at * 8 + k;
                 if i >= from && i < size && (byte >> k) % 2 == 1 {
@@ -58,24 +64,29 @@ pub(crate) fn first_set(plane: &[u8], from: usize, size: usize) -> Option<usize>
             }
         }
         None
-    };
-    found
-}
-
-pub(crate) fn is_mark_black(mark: MarkColour) -> bool
-    ensures { result ≡ is_mark_black mark }
-{
-    match mark {
-        MarkColour::Black => true,
-        _ => false,
     }
 }
 
-pub(crate) fn is_sweep_black(sweep: SweepColour) -> bool
-    ensures { result ≡ is_sweep_black sweep }
+// The mark colour of a bit of the grey plane and one of the mark plane.
+pub(crate) fn mark_of(grey: bool, black: bool) -> MarkColour
+    ensures { result ≡ mark_of grey black }
 {
-    match sweep {
-        SweepColour::Black => true,
-        SweepColour::White => false,
+    if grey {
+        MarkColour::Grey
+    } else if black {
+        MarkColour::Black
+    } else {
+        MarkColour::White
+    }
+}
+
+// The sweep colour of a bit of the sweep plane.
+pub(crate) fn sweep_of(black: bool) -> SweepColour
+    ensures { result ≡ sweep_of black }
+{
+    if black {
+        SweepColour::Black
+    } else {
+        SweepColour::White
     }
 }

@@ -1,134 +1,48 @@
 //! A heap in the front of four lent pieces of memory.
-ghost use Rattle.std.specs.Prelude.{◌≡◌, ◌*◌, ◌<◌, length};
+ghost use Rattle.std.specs.Prelude.{◌≡◌};
 ghost use Rattle.cells.specs.Calls.{exchange_answer, exchange_cells, exchange_fault, first_grey, paint_answer, paint_cells, write_answer, write_cells};
 ghost use Rattle.cells.specs.Cells.{new_cells};
 ghost use Rattle.cells.specs.Fault.{unless_fault};
-ghost use Rattle.planes.specs.Planes.{Room, planes_size};
-ghost use Rattle.planes.specs.Whole.{MadeIn, MarkPainted, SameBeyond, SoundPlanes, SweepPainted, cells_of_planes, size_of_planes, swapped_planes};
+ghost use Rattle.planes.specs.Planes.{planes_size};
+ghost use Rattle.planes.specs.Whole.{MadeIn, SameBeyond, SoundPlanes, cells_of_planes, size_of_planes, swapped_planes};
 
-use crate::bits::{clear_bits, first_set, get_bit, is_mark_black, is_sweep_black, set_bit};
-use crate::links::{LinkRecord, join_cell, renew_links, set_links};
+use crate::bits::{first_set, get_bit, mark_of, sweep_of};
+use crate::memory::PlanesMemory;
 use cells::{
-    CellRecord, Colour, Content, Heap, HeapFault, Joint, MarkColour, SweepColour, Tag,
-    check_exchange, check_index, check_write, is_grey,
+    CellRecord, Colour, Heap, HeapFault, LinkRecord, check_exchange, check_index, check_write,
 };
 
-// The whole lent memory. Cell i is record i and bit i of each plane; what lies beyond the size is never written.
-// A bit of the grey plane says that a cell is grey. The mark and the sweep plane are set for black, and change
-// their parts at each exchange.
+// A heap is its lent memory.
 #[derive(Drop)]
 pub struct PlanesHeap<'a> {
-    links: &'a mut [LinkRecord],
-    grey: &'a mut [u8],
-    mark: &'a mut [u8],
-    sweep: &'a mut [u8],
-}
-
-// How many cells have room in pieces of memory of these lengths. A length is lowered before it is multiplied.
-fn room_for(links: usize, grey: usize, mark: usize, sweep: usize) -> usize
-    ensures size { result ≡ planes_size links grey mark sweep }
-    ensures room { Room result links grey mark sweep }
-{
-    let bytes = grey.min(mark.min(sweep)).min(2048);
-    links.min(8 * bytes)
+    memory: PlanesMemory<'a>,
 }
 
 impl<'a> PlanesHeap<'a> {
     // Makes a heap of new cells. What lies beyond the size stays as it was, and the memory that the heap writes
     // is the caller's own, which comes back as the heap left it.
-    pub fn new(
-        links: &'a mut [LinkRecord],
-        grey: &'a mut [u8],
-        mark: &'a mut [u8],
-        sweep: &'a mut [u8],
-    ) -> PlanesHeap<'a>
-        ensures made { MadeIn links.entry grey.entry mark.entry sweep.entry result }
-        ensures meaning { cells_of_planes result ≡ new_cells (planes_size (length links.old) (length grey.old) (length mark.old) (length sweep.old)) }
+    #[tactic(auto, using(crate::proofs::Entire::made_cells, crate::proofs::Entire::made_sound))]
+    pub fn new(mut memory: PlanesMemory<'a>) -> PlanesHeap<'a>
+        ensures made { MadeIn memory.entry result }
+        ensures meaning { cells_of_planes result ≡ new_cells (planes_size memory.entry) }
         ensures sound { SoundPlanes result }
     {
-        let size = room_for(links.len(), grey.len(), mark.len(), sweep.len());
-        renew_links(links, size);
-        clear_bits(grey, size);
-        clear_bits(mark, size);
-        clear_bits(sweep, size);
-        PlanesHeap {
-            links,
-            grey,
-            mark,
-            sweep,
-        }
+        memory.renew();
+        PlanesHeap { memory }
     }
 
-    // Gives the memory back as the heap left it: the records, the grey plane, and the two black planes in their
-    // present parts, mark before sweep.
-    pub fn release(
-        self,
-    ) -> (
-        &'a mut [LinkRecord],
-        &'a mut [u8],
-        &'a mut [u8],
-        &'a mut [u8],
-    )
-        ensures { (result.0 ≡ self.entry.links) × (result.1 ≡ self.entry.grey) × (result.2 ≡ self.entry.mark) × (result.3 ≡ self.entry.sweep) }
+    // Gives the memory back as the heap left it: the two black planes in their present parts.
+    pub fn release(self) -> PlanesMemory<'a>
+        ensures { result ≡ self.entry.memory }
     {
-        let PlanesHeap {
-            links,
-            grey,
-            mark,
-            sweep,
-        } = self;
-        (links, grey, mark, sweep)
-    }
-
-    // How many cells there are.
-    fn limit(&self) -> u32
-        ensures size { result ≡ size_of_planes self.now }
-        ensures room { Room result (length self.now.links.now) (length self.now.grey.now) (length self.now.mark.now) (length self.now.sweep.now) }
-    {
-        room_for(
-            self.links.len(),
-            self.grey.len(),
-            self.mark.len(),
-            self.sweep.len(),
-        ) as u32
-    }
-
-    // The first grey cell from `from` on, sound or not.
-    fn grey_from(&self, from: u32) -> Option<u32>
-        ensures { result ≡ first_grey (cells_of_planes self.now) from }
-    {
-        match first_set(self.grey, from as usize, self.limit() as usize) {
-            Some(i) => Some(i as u32),
-            None => None,
-        }
-    }
-
-    // Paints a mark colour: one bit of the grey plane and one of the mark plane.
-    fn paint_mark(&mut self, i: usize, mark: MarkColour)
-        requires { (i < 8 * length self.old.grey.now) × (i < 8 * length self.old.mark.now) }
-        ensures { MarkPainted i mark self.old self.new }
-    {
-        set_bit(self.grey, i, is_grey(mark));
-        set_bit(self.mark, i, is_mark_black(mark));
-    }
-
-    // Paints a sweep colour: one bit of the sweep plane.
-    fn paint_sweep(&mut self, i: usize, sweep: SweepColour)
-        requires { i < 8 * length self.old.sweep.now }
-        ensures { SweepPainted i sweep self.old self.new }
-    {
-        set_bit(self.sweep, i, is_sweep_black(sweep));
-    }
-
-    // The two black planes change their parts. No byte is touched.
-    fn swap_parts(&mut self)
-        ensures { self.new ≡ swapped_planes self.old }
-    {
-        std::mem::swap(&mut self.mark, &mut self.sweep);
+        let PlanesHeap { memory } = self;
+        memory
     }
 }
 
 // Sound if all contents of the cells are in range, and no cell has both its grey bit and its mark bit set.
+// Stays: `write`, `paint` and `exchange` repeat the trait's clauses, since a method with a clause of its own has its
+// clauses in place of the trait's.
 impl<'a> Heap for PlanesHeap<'a> {
     ghost meaning = { λ h. cells_of_planes h };
 
@@ -136,47 +50,31 @@ impl<'a> Heap for PlanesHeap<'a> {
 
     ghost lawful = { λ h s. s.cells };
 
-    fn size(&self) -> u32 {
-        self.limit()
+    fn size(&self) -> u32
+        ensures { result ≡ size_of_planes self.now }
+    {
+        self.memory.room() as u32
     }
 
     fn read(&self, index: u32) -> Result<CellRecord, HeapFault> {
-        check_index(self.limit(), index)?;
+        check_index(self.size(), index)?;
         let i = index as usize;
-        Ok(join_cell(
-            self.links[i],
-            get_bit(self.grey, i),
-            get_bit(self.mark, i),
-            get_bit(self.sweep, i),
-        ))
+        Ok(CellRecord {
+            links: self.memory.links[i],
+            mark: mark_of(get_bit(self.memory.grey, i), get_bit(self.memory.mark, i)),
+            sweep: sweep_of(get_bit(self.memory.sweep, i)),
+        })
     }
 
-    fn write(
-        &mut self,
-        index: u32,
-        joint: Joint,
-        left: Content,
-        right: Content,
-        tag: Tag,
-    ) -> Result<(), HeapFault>
-        ensures result { SoundPlanes self.old → result ≡ write_answer (cells_of_planes self.old) index left right }
-        ensures after { SoundPlanes self.old → cells_of_planes self.new ≡ write_cells (cells_of_planes self.old) index joint left right tag }
+    #[tactic(auto, using(crate::proofs::Entire::written_cells, crate::proofs::Entire::written_sound))]
+    fn write(&mut self, index: u32, links: LinkRecord) -> Result<(), HeapFault>
+        ensures result { SoundPlanes self.old → result ≡ write_answer (cells_of_planes self.old) index links }
+        ensures after { SoundPlanes self.old → cells_of_planes self.new ≡ write_cells (cells_of_planes self.old) index links }
         ensures kept { SoundPlanes self.old → SoundPlanes self.new }
         ensures beyond { SameBeyond self.old self.new }
     {
-        if let Err(fault) = check_write(self.limit(), index, left, right) {
-            return Err(fault);
-        }
-        set_links(
-            self.links,
-            index as usize,
-            LinkRecord {
-                joint,
-                left,
-                right,
-                tag,
-            },
-        );
+        check_write(self.size(), index, links)?;
+        self.memory.links[index as usize] = links;
         Ok(())
     }
 
@@ -186,26 +84,30 @@ impl<'a> Heap for PlanesHeap<'a> {
         ensures kept { SoundPlanes self.old → SoundPlanes self.new }
         ensures beyond { SameBeyond self.old self.new }
     {
-        check_index(self.limit(), index)?;
+        check_index(self.size(), index)?;
         match colour {
-            Colour::Mark(mark) => self.paint_mark(index as usize, mark),
-            Colour::Sweep(sweep) => self.paint_sweep(index as usize, sweep),
+            Colour::Mark(mark) => self.memory.paint_mark(index as usize, mark),
+            Colour::Sweep(sweep) => self.memory.paint_sweep(index as usize, sweep),
         }
         Ok(())
     }
 
-    fn first_grey(&self, from: u32) -> Option<u32> {
-        self.grey_from(from)
+    #[tactic(auto, using(crate::proofs::Entire::found_in))]
+    fn first_grey(&self, from: u32) -> Option<u32>
+        ensures { result ≡ first_grey (cells_of_planes self.now) from }
+    {
+        first_set(self.memory.grey, from, self.size())
     }
 
+    #[tactic(auto, using(crate::proofs::Entire::swap_cells, crate::proofs::Entire::swap_sound))]
     fn exchange(&mut self) -> Result<(), HeapFault>
         ensures result { SoundPlanes self.old → result ≡ exchange_answer (cells_of_planes self.old) }
         ensures after { SoundPlanes self.old → cells_of_planes self.new ≡ exchange_cells (cells_of_planes self.old) }
         ensures kept { SoundPlanes self.old → SoundPlanes self.new }
         ensures parts { self.new ≡ unless_fault (exchange_fault (cells_of_planes self.old)) (swapped_planes self.old) self.old }
     {
-        check_exchange(self.grey_from(0))?;
-        self.swap_parts();
+        check_exchange(self.first_grey(0))?;
+        self.memory.swap_parts();
         Ok(())
     }
 }

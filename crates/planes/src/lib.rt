@@ -3,7 +3,8 @@
 
 mod bits;
 mod heap;
-mod links;
+mod memory;
 
+pub use cells::LinkRecord;
 pub use heap::PlanesHeap;
-pub use links::LinkRecord;
+pub use memory::PlanesMemory;

@@ -2,6 +2,5 @@
 #![tactic(auto)]
 
 mod heap;
-mod memory;
 
 pub use heap::RecordsHeap;

@@ -1,5 +1,5 @@
 -- The counts that are kept while a text is read are those of its pattern.
-use Rattle.std.proofs.Common.{◌≡◌, ℕ, ◌+◌, ◌<◌, ◌≤◌, max, Bool, true, false, cond, leb, List, [], ◌∷◌, length, Ok, Err, count_by, Result, refl, ap, ◌∙◌, arith, leb-false, leb-true}
+use Rattle.std.proofs.Common.{◌≡◌, ℕ, ◌+◌, ◌<◌, ◌≤◌, max, Bool, true, false, cond, leb, List, [], ◌∷◌, length, Ok, Err, count_by, Result, sym, refl, ap, ◌∙◌, arith, leb-false, leb-true}
 use Rattle.std.proofs.lemmas.List.Sums.{sum_by-cons}
 use Rattle.std.proofs.lemmas.Bool.Decides.{nat_tests}
 use Rattle.cells.specs.declared.content.Content.{Content}
@@ -11,10 +11,11 @@ use Rattle.archive.specs.declared.fault.FileFault.{FileFault}
 use Rattle.archive.specs.Pattern.{Pattern, Writes, among, contents, named}
 use Rattle.archive.specs.Reading.{Place, and_then, cells_and_end, cells_from, due, ending, finished, opened, pattern_in}
 use Rattle.archive.proofs.Numbering.{Follows, follows_each}
-use Rattle.archive.proofs.Whole.{count_is, pattern_read, pattern_written}
+use Rattle.archive.proofs.Whole.{pattern_read, pattern_written}
+use Rattle.report.specs.declared.tally.Summary.{Summary}
 use Rattle.report.specs.declared.tally.Tally.{Tally}
 use Rattle.report.specs.Summary.{is_above, is_nothing, is_yarn, met_again, summary_of, surveyed, ties}
-use Rattle.report.specs.Survey.{as_summary, tallied_end, tally_from}
+use Rattle.report.specs.Survey.{tallied_end, tally_from}
 use Rattle.report.specs.Tally.{cell_noted, content_noted, empty, joint_noted, tallied}
 
 -- The counts of one content.
@@ -29,14 +30,15 @@ at_most g (k ∷ ks) = one (leb k g) + at_most (max g k) ks
 
 -- what a content adds to a tally, where ks are the numbers named behind it
 record Adds (t : Tally) (x : Content) (u : Tally) : Type 0 where
-  above : u.above ≡ t.above
-  yarns : u.yarns ≡ t.yarns + one (is_yarn x)
-  nothings : u.nothings ≡ t.nothings + one (is_nothing x)
-  ties : (xs : List Content) → u.ties + at_most u.greatest (named xs) ≡ t.ties + at_most t.greatest (named (x ∷ xs))
+  cells : u.counts.cells ≡ t.counts.cells
+  above : u.counts.above ≡ t.counts.above
+  yarns : u.counts.yarns ≡ t.counts.yarns + one (is_yarn x)
+  nothings : u.counts.nothings ≡ t.counts.nothings + one (is_nothing x)
+  ties : (xs : List Content) → u.counts.ties + at_most u.greatest (named xs) ≡ t.counts.ties + at_most t.greatest (named (x ∷ xs))
 
 adds : (t : Tally) (x : Content) → Adds t x (content_noted t x)
-adds t Nothing = record { above = refl; yarns = omega arith; nothings = refl; ties = λ xs. refl }
-adds t (Yarn y) = record { above = refl; yarns = refl; nothings = omega arith; ties = λ xs. refl }
+adds t Nothing = record { cells = refl; above = refl; yarns = omega arith; nothings = refl; ties = λ xs. refl }
+adds t (Yarn y) = record { cells = refl; above = refl; yarns = refl; nothings = omega arith; ties = λ xs. refl }
 adds t (Cell k) = by (leb k t.greatest) refl
   where
     stays : k ≤ t.greatest → max t.greatest k ≡ t.greatest
@@ -45,10 +47,11 @@ adds t (Cell k) = by (leb k t.greatest) refl
     rises : t.greatest < k → max t.greatest k ≡ k
     rises h = omega arith
 
-    by : (b : Bool) → leb k t.greatest ≡ b → Adds t (Cell k) (cond b (record { above = t.above; yarns = t.yarns; nothings = t.nothings; ties = t.ties + 1; greatest = t.greatest }) (record { above = t.above; yarns = t.yarns; nothings = t.nothings; ties = t.ties; greatest = k }))
+    by : (b : Bool) → leb k t.greatest ≡ b → Adds t (Cell k) (cond b (record t { counts = record (t.counts) { ties = t.counts.ties + 1 } }) (record t { greatest = k }))
     by true q =
         let h = leb-true k t.greatest q in
         record {
+          cells = refl;
           above = refl;
           yarns = omega arith;
           nothings = omega arith;
@@ -57,6 +60,7 @@ adds t (Cell k) = by (leb k t.greatest) refl
     by false q =
         let h = leb-false k t.greatest q in
         record {
+          cells = refl;
           above = refl;
           yarns = omega arith;
           nothings = omega arith;
@@ -69,49 +73,47 @@ count_cons : {X : Type 0} (test : X → Bool) (x : X) (xs : List X) → count_by
 count_cons test x xs = sum_by-cons (λ y. one (test y)) x xs
 
 record Counted (t : Tally) (p : Pattern) (u : Tally) : Type 0 where
-  above : u.above ≡ t.above + count_by is_above p
-  yarns : u.yarns ≡ t.yarns + count_by is_yarn (contents p)
-  nothings : u.nothings ≡ t.nothings + count_by is_nothing (contents p)
-  ties : u.ties ≡ t.ties + at_most t.greatest (named (contents p))
+  cells : u.counts.cells ≡ t.counts.cells + length p
+  above : u.counts.above ≡ t.counts.above + count_by is_above p
+  yarns : u.counts.yarns ≡ t.counts.yarns + count_by is_yarn (contents p)
+  nothings : u.counts.nothings ≡ t.counts.nothings + count_by is_nothing (contents p)
+  ties : u.counts.ties ≡ t.counts.ties + at_most t.greatest (named (contents p))
 
-joint_adds : (t : Tally) (c : PatternCell) → (joint_noted t c.joint).above ≡ t.above + one (is_above c)
-joint_adds t c = by c.joint
+-- what a joint adds to the counts
+record Joined (s : Summary) (c : PatternCell) (u : Summary) : Type 0 where
+  cells : u.cells ≡ s.cells + 1
+  above : u.above ≡ s.above + one (is_above c)
+  yarns : u.yarns ≡ s.yarns
+  nothings : u.nothings ≡ s.nothings
+  ties : u.ties ≡ s.ties
+
+joined : (s : Summary) (c : PatternCell) → Joined s c (joint_noted s c.joint)
+joined s c = by c.joint refl
   where
-    by : (j : Joint) → (joint_noted t j).above ≡ t.above + one (elim j [ Beside ↦ false | Above ↦ true ])
-    by Beside = omega arith
-    by Above = refl
-
--- a joint leaves the other counts
-record Joined (t u : Tally) : Type 0 where
-  yarns : u.yarns ≡ t.yarns
-  nothings : u.nothings ≡ t.nothings
-  ties : u.ties ≡ t.ties
-  greatest : u.greatest ≡ t.greatest
-
-joined : (t : Tally) (j : Joint) → Joined t (joint_noted t j)
-joined t Beside = record { yarns = refl; nothings = refl; ties = refl; greatest = refl }
-joined t Above = record { yarns = refl; nothings = refl; ties = refl; greatest = refl }
+    by : (j : Joint) → c.joint ≡ j → Joined s c (joint_noted s j)
+    by Beside q = let b : is_above c ≡ false = ap (λ j. elim j [ Beside ↦ false | Above ↦ true ]) q in record { cells = refl; above = omega (arith, ap one b); yarns = refl; nothings = refl; ties = refl }
+    by Above q = let b : is_above c ≡ true = ap (λ j. elim j [ Beside ↦ false | Above ↦ true ]) q in record { cells = refl; above = omega (arith, ap one b); yarns = refl; nothings = refl; ties = refl }
 
 counted : (t : Tally) (p : Pattern) → Counted t p (tallied t p)
-counted t [] = record { above = omega arith; yarns = omega arith; nothings = omega arith; ties = omega arith }
+counted t [] = record { cells = omega arith; above = omega arith; yarns = omega arith; nothings = omega arith; ties = omega arith }
 counted t (c ∷ cs) =
-    let j = joint_noted t c.joint in
+    let j : Tally = record t { counts = joint_noted t.counts c.joint } in
     let l = content_noted j c.left in
-    let joint = joined t c.joint in
+    let joint = joined t.counts c in
     let left = adds j c.left in
     let right = adds l c.right in
     let more = counted (cell_noted t c) cs in
     let both = c.left ∷ c.right ∷ contents cs in
     record {
-      above = omega (arith, more.above, right.above, left.above, joint_adds t c, count_cons is_above c cs);
+      cells = omega (arith, more.cells, right.cells, left.cells, joint.cells);
+      above = omega (arith, more.above, right.above, left.above, joint.above, count_cons is_above c cs);
       yarns =
           omega (arith, more.yarns, right.yarns, left.yarns, joint.yarns, count_cons is_yarn c.left (c.right ∷ contents cs), count_cons is_yarn c.right (contents cs));
       nothings =
           omega (arith, more.nothings, right.nothings, left.nothings, joint.nothings, count_cons is_nothing c.left (c.right ∷ contents cs), count_cons is_nothing c.right (contents cs));
       ties =
           more.ties ∙ right.ties (contents cs) ∙ left.ties (c.right ∷ contents cs)
-          ∙ ap (λ k. k + at_most j.greatest (named both)) joint.ties
-          ∙ ap (λ g. t.ties + at_most g (named both)) joint.greatest;
+          ∙ ap (λ k. k + at_most t.greatest (named both)) joint.ties;
     }
 
 -- Under the numbering rule, a number was met before exactly if it is at most the greatest before it.
@@ -128,29 +130,28 @@ met_at_most g met (k ∷ ks) f m =
 first_met : (j : ℕ) → among j (0 ∷ []) ≡ leb j 0
 first_met j = grind (arith, nat_tests)
 
-summary_is : (text : List ℕ) (p : Pattern) → Writes p text → as_summary (tallied empty p) (length p) ≡ summary_of p
+same_counts : (s : Summary) (c a y n k : ℕ) → s.cells ≡ c → s.above ≡ a → s.yarns ≡ y → s.nothings ≡ n → s.ties ≡ k → s ≡ record { cells = c; above = a; yarns = y; nothings = n; ties = k }
+same_counts s c a y n k e f g h i = rw (← e, ← f, ← g, ← h, ← i)
+
+summary_is : (text : List ℕ) (p : Pattern) → Writes p text → (tallied empty p).counts ≡ summary_of p
 summary_is text p w =
     let all = counted empty p in
     let rule = w.numbered in
     let follows = follows_each 0 (named (contents p)) (λ before k after e. omega (arith, rule.next_number before k after e)) in
     let met = met_at_most 0 (0 ∷ []) (named (contents p)) follows first_met in
-    let t = tallied empty p in
-    let a : t.above ≡ count_by is_above p = omega (arith, all.above) in
-    let y : t.yarns ≡ count_by is_yarn (contents p) = omega (arith, all.yarns) in
-    let n : t.nothings ≡ count_by is_nothing (contents p) = omega (arith, all.nothings) in
-    let k : t.ties ≡ ties p = omega (arith, all.ties, met) in
-    cc
+    same_counts (tallied empty p).counts (length p) (count_by is_above p) (count_by is_yarn (contents p)) (count_by is_nothing (contents p)) (ties p)
+    (omega (arith, all.cells)) (omega (arith, all.above)) (omega (arith, all.yarns)) (omega (arith, all.nothings)) (omega (arith, all.ties, met))
 
 -- The whole text.
 
-pub survey_is : (text : List ℕ) → and_then (opened text) (λ p. and_then (tally_from p) tallied_end) ≡ surveyed text
-survey_is text = by (opened text) refl
+pub survey_is : (text : List ℕ) (r : Result Summary FileFault) → r ≡ and_then (opened text) (λ p. and_then (tally_from p) tallied_end) → surveyed text ≡ r
+survey_is text r h = sym (h ∙ by (opened text) refl)
   where
-    with_end : (s : Place) → opened text ≡ Ok s → (cs : Pattern) (q : Place) → cells_from (due s) s ≡ Ok (cs, q) → (r : Result ℕ FileFault) → finished q ≡ r → and_then r (λ n. Ok (as_summary (tallied empty cs) n)) ≡ and_then (and_then r (λ n. Ok cs)) (λ p. Ok (summary_of p))
+    with_end : (s : Place) → opened text ≡ Ok s → (cs : Pattern) (q : Place) → cells_from (due s) s ≡ Ok (cs, q) → (r : Result ℕ FileFault) → finished q ≡ r → and_then r (λ n. Ok (tallied empty cs).counts) ≡ and_then (and_then r (λ n. Ok cs)) (λ p. Ok (summary_of p))
     with_end s e cs q f (Err g) h = refl
     with_end s e cs q f (Ok n) h =
         let read : pattern_in text ≡ Ok cs = ap (λ r. and_then r cells_and_end) e ∙ ap (λ r. and_then r ending) f ∙ ap (λ r. and_then r (λ n. Ok cs)) h in
-        ap (λ k. Ok (as_summary (tallied empty cs) k)) (count_is text s cs q n e f h) ∙ ap Ok (summary_is text cs (pattern_read text cs read))
+        ap Ok (summary_is text cs (pattern_read text cs read))
 
     with_cells_lem : (s : Place) → opened text ≡ Ok s → (r : Result (Pattern × Place) FileFault) → cells_from (due s) s ≡ r → and_then (and_then r (λ cells. Ok (tallied empty cells.0, cells.1))) tallied_end ≡ and_then (and_then r ending) (λ p. Ok (summary_of p))
     with_cells_lem s e (Err g) f = refl

@@ -1,10 +1,10 @@
 -- The counts of the cells that are left, step by step.
-use Rattle.std.proofs.Common.{◌≡◌, Some, None, Ok, Err, Result, refl, ap, ◌∙◌}
+use Rattle.std.proofs.Common.{◌≡◌, Some, Ok, Err, Result, refl, ap, ◌∙◌}
 use Rattle.lines.specs.declared.cell.PatternCell.{PatternCell}
 use Rattle.archive.specs.declared.fault.FileFault.{FileFault}
 use Rattle.archive.specs.Pattern.{Pattern}
 use Rattle.archive.specs.Reading.{Place, and_then, cells_from, due, in_front, next_cell, place_after}
-use Rattle.archive.proofs.Places.{cells_fault, cells_none, cells_some}
+use Rattle.archive.proofs.Places.{cells_fault, cells_some}
 use Rattle.report.specs.declared.tally.Tally.{Tally}
 use Rattle.report.specs.Survey.{tally_on}
 use Rattle.report.specs.Tally.{cell_noted, tallied}
@@ -16,10 +16,6 @@ module _ (t : Tally) (p : Place) where
   pub tally_fault : (f : FileFault) → next_cell p ≡ Err f → tally_on t p ≡ Err f
   unfolding counted
   tally_fault f e = ap counted (cells_fault p f e)
-
-  pub tally_none : next_cell p ≡ Ok None → tally_on t p ≡ Ok (t, p)
-  unfolding counted
-  tally_none e = ap counted (cells_none p e)
 
   pub tally_some : (c : PatternCell) → next_cell p ≡ Ok (Some c) → tally_on t p ≡ tally_on (cell_noted t c) (place_after p)
   unfolding counted

@@ -1,5 +1,5 @@
 -- A text is read and its cells are counted on the way.
-use Rattle.std.specs.Prelude.{ℕ, Ok, Err, Result}
+use Rattle.std.specs.Prelude.{Ok, Err, Result}
 use Rattle.archive.specs.declared.fault.FileFault.{FileFault}
 use Rattle.archive.specs.declared.reader.Reader.{Reader}
 use Rattle.archive.specs.Reading.{Place, and_then, cells_from, due, finished, place_of}
@@ -14,12 +14,9 @@ tally_on t p = and_then (cells_from (due p) p) (λ cells. Ok (tallied t cells.0,
 abbrev pub tally_from : Place → Result (Tally × Place) FileFault
 tally_from p = tally_on empty p
 
--- the end line, and the counts as a summary
-abbrev pub as_summary : Tally → ℕ → Summary
-as_summary t n = record { cells = n; above = t.above; yarns = t.yarns; nothings = t.nothings; ties = t.ties }
-
+-- the end line, and the counts
 abbrev pub tallied_end : Tally × Place → Result Summary FileFault
-tallied_end read = and_then (finished read.1) (λ n. Ok (as_summary read.0 n))
+tallied_end read = and_then (finished read.1) (λ n. Ok read.0.counts)
 
 -- an answer that holds a reader, by its place
 abbrev pub tally_answer : Result (Tally × Reader) FileFault → Result (Tally × Place) FileFault

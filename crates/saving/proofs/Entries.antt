@@ -1,7 +1,7 @@
 -- The tables of an order: what the code keeps once the cells of the order are met.
-use Rattle.std.proofs.Common.{◌≡◌, ℕ, zero, suc, ◌+◌, ◌<◌, ◌≤◌, min, eqb, List, [], ◌∷◌, ◌++◌, map, length, get_or, drop, set, replicate, sym, refl, ap, ◌∙◌, inl, inr, arith}
+use Rattle.std.proofs.Common.{◌≡◌, ℕ, zero, suc, ◌+◌, ◌<◌, ◌≤◌, min, List, [], ◌∷◌, ◌++◌, map, length, get_or, drop, set, replicate, sym, refl, ap, ◌∙◌, inl, inr, arith}
 use Rattle.std.proofs.lemmas.List.{append_assoc, drop_more, ext_get_or, get_or_append_left, get_or-map, get_or-set_other, get_or-set_same, length-map, length_push, length-set, set-append_left, set_at}
-use Rattle.std.proofs.lemmas.Bool.{cases_Bool, cases_eq, cond-false, cond-true, eq-eqb, ne_eqb}
+use Rattle.std.proofs.lemmas.Bool.{cases_Bool, cases_eq, cond-false, eq-eqb, ne_eqb}
 use Rattle.cells.specs.declared.content.Content.{Content}
 use Rattle.cells.specs.declared.content.Content.TheVariants.{Nothing, Yarn, Cell}
 use Rattle.cells.specs.Calls.{InRange}
@@ -10,7 +10,6 @@ use Rattle.numbering.specs.Lists.{In, count_from}
 use Rattle.numbering.specs.Walk.{meets, number_of, place}
 use Rattle.numbering.proofs.Lists.{among_in, among_not, count_at, in_push, length_count, not_among}
 use Rattle.numbering.proofs.Numbers.{number_at, number_new, number_stays}
-use Rattle.numbering.proofs.Steps.{meets_new, meets_old}
 use Rattle.saving.specs.Tables.{Tables, cell_met_in, cleared_in, entered_in, entry_for, met_in, tables}
 
 -- a cell that is not in the order has no number
@@ -100,24 +99,19 @@ module _ (size : ℕ) (numbers order : List ℕ) (fits : Fits size numbers order
 
   -- a cell is met
   cell_met : (w : List ℕ) (c : ℕ) → c < size → length (meets w (Cell c)) ≤ size → cell_met_in (tables_for w) c ≡ tables_for (meets w (Cell c))
-  cell_met w c h room = elim (cases_Bool (among c w)) [ inl e ↦ old (among_in c w e) | inr e ↦ new (among_not c w e) ]
-    where
-      old : In c w → cell_met_in (tables_for w) c ≡ tables_for (meets w (Cell c))
-      old there =
-          let entry = get_or (numbers_for w) c 0 in
-          let is = meets_old w c there in
-          let number : number_of w c < length w = (number_at w c there).below in
-          let told : entry ≡ 65535 → ⊥ = λ q. omega (arith, number_entry w c h, ap length is) in
-          cond-false (eqb entry 65535) (entered_in (tables_for w) c) (tables_for w) (ne_eqb entry 65535 told) ∙ ap tables_for (sym is)
-
-      new : (In c w → ⊥) → cell_met_in (tables_for w) c ≡ tables_for (meets w (Cell c))
-      new out =
-          let entry = get_or (numbers_for w) c 0 in
-          let is = meets_new w c out in
-          let told : entry ≡ 65535 = number_entry w c h ∙ number_none w c out in
-          cond-true (eqb entry 65535) (entered_in (tables_for w) c) (tables_for w) (eq-eqb entry 65535 told)
-          ∙ entered w c h out (omega (arith, ap length is, length_push w c))
-          ∙ ap tables_for (sym is)
+  cell_met w c h room = elim (cases_Bool (among c w)) [
+    | inl e ↦
+        let entry = get_or (numbers_for w) c 0 in
+        let fit = simp e at room in
+        let number : number_of w c < length w = (number_at w c (among_in c w e)).below in
+        let told : entry ≡ 65535 → ⊥ = λ q. omega (arith, number_entry w c h) in
+        simp (e, ne_eqb entry 65535 told) refl
+    | inr e ↦
+        let entry = get_or (numbers_for w) c 0 in
+        let fit = simp e at room in
+        let told : entry ≡ 65535 = number_entry w c h ∙ number_none w c (among_not c w e) in
+        simp (e, eq-eqb entry 65535 told) (entered w c h (among_not c w e) (omega (arith, length_push w c)))
+  ]
 
   -- a content is met
   pub met : (w : List ℕ) (x : Content) → InRange size x → length (meets w x) ≤ size → met_in (tables_for w) x ≡ tables_for (meets w x)

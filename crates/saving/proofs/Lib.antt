@@ -1,4 +1,5 @@
 pub mod Entries
+pub mod Renamed
 pub mod Texts
 pub mod Turns
 pub mod Whole

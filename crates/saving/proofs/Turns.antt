@@ -1,29 +1,26 @@
--- The turns of the walk through the tables.
-use Rattle.std.proofs.Common.{◌≡◌, ℕ, zero, suc, ◌+◌, ◌-◌, ◌≤◌, true, false, ltb, leb, sym, ap, ◌∙◌, arith}
-use Rattle.std.proofs.lemmas.Bool.{cond-false, cond-true, le-ltb, leb-false, leb-true, lt-ltb}
+-- Past the last cell the walk through the tables meets nothing.
+use Rattle.std.proofs.Common.{◌≡◌, ℕ, zero, suc, ◌+◌, ◌-◌, ◌≤◌, None, ltb, sym, ap, ◌∙◌, arith}
+use Rattle.std.proofs.lemmas.Bool.{cond-false, le-ltb}
+use Rattle.std.proofs.lemmas.Grind.{common_steps}
 use Rattle.cells.specs.Cells.{Cells}
-use Rattle.saving.specs.Tables.{Tables, line_visited_in, visited_in, walked_in}
+use Rattle.saving.specs.declared.tables.Walk.{Walk}
+use Rattle.saving.specs.Tables.{Tables, cell_at_in, line_visited_in, visited_in, walked_in}
+use Rattle.saving.specs.Walk.{Becomes, tables_of}
 
-module _ (cells : Cells) (t : Tables) where
-  -- one cell more is gone through
-  pub walked_more : (u v : Tables) (k : ℕ) → u ≡ walked_in cells t k → v ≡ visited_in cells u k → false ≡ leb u.count k → v ≡ walked_in cells t (k + 1)
-  walked_more u v k e f more =
-      f
-      ∙ sym (cond-true (ltb k u.count) (visited_in cells u k) u (lt-ltb k u.count (leb-false u.count k (sym more))))
-      ∙ ap (line_visited_in cells k) e
-      ∙ ap (walked_in cells t) (let next : suc k ≡ k + 1 = omega arith in next)
+stays : (cells : Cells) (t : Tables) (k d : ℕ) → (walked_in cells t k).count ≤ k → walked_in cells t (d + k) ≡ walked_in cells t k
+stays cells t k zero h = ap (walked_in cells t) (let same : 0 + k ≡ k = omega arith in same)
+stays cells t k (suc d) h =
+    let u = walked_in cells t k in
+    ap (walked_in cells t) (let next : suc d + k ≡ suc (d + k) = omega arith in next)
+    ∙ ap (line_visited_in cells (d + k)) (stays cells t k d h)
+    ∙ cond-false (ltb (d + k) u.count) (visited_in cells u (d + k)) u (le-ltb (d + k) u.count (omega arith))
 
-  -- past the last cell nothing is met
-  stays : (k d : ℕ) → (walked_in cells t k).count ≤ k → walked_in cells t (d + k) ≡ walked_in cells t k
-  stays k zero h = ap (walked_in cells t) (let same : 0 + k ≡ k = omega arith in same)
-  stays k (suc d) h =
-      let u = walked_in cells t k in
-      ap (walked_in cells t) (let next : suc d + k ≡ suc (d + k) = omega arith in next)
-      ∙ ap (line_visited_in cells (d + k)) (stays k d h)
-      ∙ cond-false (ltb (d + k) u.count) (visited_in cells u (d + k)) u (le-ltb (d + k) u.count (omega arith))
-
-  -- so the walk may end there
-  pub walked_stays : (u : Tables) (k m : ℕ) → u ≡ walked_in cells t k → true ≡ leb u.count k → k ≤ m → u ≡ walked_in cells t m
-  walked_stays u k m e past h =
-      let few : (walked_in cells t k).count ≤ k = let old = leb-true u.count k (sym past) in omega (arith, ap (λ s. s.count) e) in
-      e ∙ sym (stays k (m - k) few) ∙ ap (walked_in cells t) (let same : (m - k) + k ≡ m = omega arith in same)
+-- so the walk may end there,
+pub walked_stays : (cells : Cells) (w v : Walk) (k m : ℕ) → Becomes w v (walked_in cells (tables_of w) k) → None ≡ cell_at_in (tables_of v) k → k ≤ m
+    → Becomes w v (walked_in cells (tables_of w) m)
+walked_stays cells w v k m so_far past h =
+    let t = tables_of w in
+    let is = so_far.tables_are in
+    let few : (walked_in cells t k).count ≤ k = grind (arith, common_steps, past, ap (λ s. s.count) is) in
+    let ends : walked_in cells t m ≡ walked_in cells t k = ap (walked_in cells t) (let back : m ≡ (m - k) + k = omega arith in back) ∙ stays cells t k (m - k) few in
+    record { tables_are = is ∙ sym ends; lenders = so_far.lenders }

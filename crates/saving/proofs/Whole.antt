@@ -1,10 +1,10 @@
 -- The walk through the tables is the walk of the numbering, and the lines made from the tables are the pattern's.
-use Rattle.std.proofs.Common.{◌≡◌, ℕ, zero, suc, ◌<◌, ◌≤◌, ltb, List, [], ◌∷◌, map, length, get_or, Option, sym, refl, ap, ◌∙◌, inl, inr, arith}
+use Rattle.std.proofs.Common.{◌≡◌, ℕ, zero, suc, ◌<◌, ◌≤◌, List, [], ◌∷◌, map, length, get_or, Option, sym, refl, ap, ◌∙◌, inl, inr, arith}
 use Rattle.std.proofs.lemmas.List.{ext_get_or, get_or-map, length-map}
-use Rattle.std.proofs.lemmas.Bool.{cases_lt, cond-false, cond-true, le-ltb, lt-ltb}
+use Rattle.std.proofs.lemmas.Bool.{cases_lt, le-ltb, lt-ltb}
 use Rattle.text.specs.Buffer.{length_put, put}
 use Rattle.cells.specs.declared.content.Content.{Content}
-use Rattle.cells.specs.declared.content.Content.TheVariants.{Nothing, Yarn, Cell}
+use Rattle.cells.specs.declared.content.Content.TheVariants.{Cell}
 use Rattle.cells.specs.Calls.{InRange, Lawful}
 use Rattle.cells.specs.Cells.{Cells}
 use Rattle.lines.specs.declared.cell.PatternCell.{PatternCell}
@@ -18,10 +18,11 @@ use Rattle.numbering.proofs.Lists.{count_at, length_count}
 use Rattle.numbering.proofs.Reach.{order_few}
 use Rattle.numbering.proofs.Steps.{meets_front, walk_front}
 use Rattle.saving.specs.Saved.{Savable, Saved}
-use Rattle.saving.specs.Tables.{Tables, entry_for, line_visited_in, met_in, numbered_in, visited_in, walked_in}
+use Rattle.saving.specs.Tables.{Tables, entry_for, line_visited_in, met_in, both_met_in, numbered_in, tables, walked_in}
 use Rattle.saving.specs.Text.{line_in, lines_in, number_in, text_in}
 use Rattle.saving.proofs.Entries as entries
 use Rattle.saving.proofs.Entries.{Fits}
+use Rattle.saving.proofs.Renamed.{line_alike}
 
 module _ (cells : Cells) (first : ℕ) (numbers order : List ℕ) (lawful : Lawful cells) (given : Savable cells first numbers order) where
   -- what is known of the cells and of the lent tables
@@ -49,21 +50,13 @@ module _ (cells : Cells) (first : ℕ) (numbers order : List ℕ) (lawful : Lawf
 
   -- the cell with number k is gone through, if there is one
   line_met : (k : ℕ) (w : List ℕ) → length (meets_line cells k w) ≤ cells.size → line_visited_in cells k (tables_for w) ≡ tables_for (meets_line cells k w)
-  line_met k w room = elim (cases_lt k (length w)) [ inl h ↦ met_now h | inr h ↦ past h ]
-    where
-      met_now : k < length w → line_visited_in cells k (tables_for w) ≡ tables_for (meets_line cells k w)
-      met_now h =
-          let c = get_or w k 0 in
-          let is = cond-true (ltb k (length w)) (meets_both cells w c) w (lt-ltb k (length w) h) in
-          cond-true (ltb k (length w)) (visited_in cells (tables_for w) k) (tables_for w) (lt-ltb k (length w) h)
-          ∙ ap (λ d. met_in (met_in (tables_for w) (cells.left d)) (cells.right d)) (entries.order_entry cells.size numbers order fits w k h)
-          ∙ both_met w c (omega (arith, ap length is))
-          ∙ ap tables_for (sym is)
-
-      past : length w ≤ k → line_visited_in cells k (tables_for w) ≡ tables_for (meets_line cells k w)
-      past h =
-          cond-false (ltb k (length w)) (visited_in cells (tables_for w) k) (tables_for w) (le-ltb k (length w) h)
-          ∙ ap tables_for (sym (cond-false (ltb k (length w)) (meets_both cells w (get_or w k 0)) w (le-ltb k (length w) h)))
+  line_met k w room = elim (cases_lt k (length w)) [
+    | inl h ↦
+        let here = lt-ltb k (length w) h in
+        let fit = simp here at room in
+        simp here (ap (both_met_in cells (tables_for w)) (entries.order_entry cells.size numbers order fits w k h) ∙ both_met w (get_or w k 0) fit)
+    | inr h ↦ simp (le-ltb k (length w) h) refl
+  ]
 
   -- at any time the tables are those of the order so far,
   walked : (k : ℕ) → k ≤ cells.size → walked_in cells (tables_for (first ∷ [])) k ≡ tables_for (order_after cells (first ∷ []) k)
@@ -81,29 +74,19 @@ module _ (cells : Cells) (first : ℕ) (numbers order : List ℕ) (lawful : Lawf
       ∙ ap (λ t. walked_in cells t cells.size) (met [] (Cell first) inside (omega arith))
       ∙ walked cells.size (omega arith)
 
-  -- a content is renamed by the table as by the order,
-  renamed_by : (w : List ℕ) (x : Content) → InRange cells.size x → renamed (number_in (tables_for w).numbers) x ≡ renamed (number_of w) x
-  renamed_by w Nothing range = refl
-  renamed_by w (Yarn y) range = refl
-  renamed_by w (Cell c) range =
-      let few = lawful.few in
-      let same : entry_for c ≡ c = omega arith in
-      ap Cell (ap (λ k. get_or (tables_for w).numbers k 0) same ∙ entries.number_entry cells.size numbers order fits w c range)
-
   -- the line of a number, by the tables of an order
   abbrev line : List ℕ → ℕ → PatternCell
   line w = line_in cells (tables_for w).numbers (tables_for w).order
 
-  -- so the line of a number is that of its cell,
+  -- which is that of its cell
   line_is : (w : List ℕ) (k : ℕ) → k < length w → line w k ≡ line_of cells w (get_or w k 0)
   line_is w k h =
-      let c = get_or w k 0 in
+      let few = lawful.few in
       let name = number_in (tables_for w).numbers in
-      let lefts = renamed_by w (cells.left c) (lawful.left_in_range c) in
-      let rights = renamed_by w (cells.right c) (lawful.right_in_range c) in
       ap (λ d. record { joint = cells.joint d; left = renamed name (cells.left d); right = renamed name (cells.right d) })
       (entries.order_entry cells.size numbers order fits w k h)
-      ∙ (λ i. record { joint = cells.joint c; left = lefts i; right = rights i })
+      ∙ line_alike cells name (number_of w) (get_or w k 0) lawful
+      (λ d h. let same : entry_for d ≡ d = omega arith in ap (λ e. get_or (tables_for w).numbers e 0) same ∙ entries.number_entry cells.size numbers order fits w d h)
 
   -- and all lines are the pattern
   lines_are : (w : List ℕ) → lines_in cells (tables_for w).numbers (tables_for w).order (length w) ≡ pattern_of cells w
@@ -121,12 +104,12 @@ module _ (cells : Cells) (first : ℕ) (numbers order : List ℕ) (lawful : Lawf
           ∙ sym (get_or-map (line_of cells w) w i 0 no_line h)
 
   -- The law: the tables of the walk and the text that is written from them are those of a save.
-  pub saved : (t : Tables) (buffer buffer' : List ℕ) (answer : Option ℕ) → t ≡ numbered_in cells first numbers order
-      → answer ≡ length_put buffer 0 (text_in cells t.numbers t.order t.count)
-      → buffer' ≡ put buffer 0 (text_in cells t.numbers t.order t.count)
-      → Saved cells first buffer numbers order (t.count, answer) buffer' t.numbers t.order
-  saved t buffer buffer' answer e told after =
-      let is : t ≡ tables_for (order_from cells first) = e ∙ numbered in
+  pub saved : (count : ℕ) (numbers' order' buffer buffer' : List ℕ) (answer : Option ℕ) → tables count numbers' order' ≡ numbered_in cells first numbers order
+      → answer ≡ length_put buffer 0 (text_in cells numbers' order' count)
+      → buffer' ≡ put buffer 0 (text_in cells numbers' order' count)
+      → Saved cells first buffer numbers order (count, answer) buffer' numbers' order'
+  saved count numbers' order' buffer buffer' answer e told after =
+      let is : tables count numbers' order' ≡ tables_for (order_from cells first) = e ∙ numbered in
       let text = ap (λ u. text_in cells u.numbers u.order u.count) is ∙ ap pattern_text (lines_are (order_from cells first)) in
       let bytes = told ∙ ap (length_put buffer 0) text in
       record {

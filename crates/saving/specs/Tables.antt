@@ -1,6 +1,6 @@
 -- The two tables of a walk as the code keeps them: entries of 16 bits, and every step tests its index. An entry that is
 -- not there reads as 0, and setting it changes nothing.
-use Rattle.std.specs.Prelude.{ℕ, zero, suc, ◌+◌, min, cond, List, ◌++◌, length, drop, replicate, ◌==◌, nat_lt, slice_index, slice_set}
+use Rattle.std.specs.Prelude.{ℕ, zero, suc, ◌+◌, min, cond, List, ◌++◌, length, drop, replicate, Some, None, Option, ◌==◌, nat_lt, slice_index, slice_set}
 use Rattle.cells.specs.declared.content.Content.{Content}
 use Rattle.cells.specs.declared.content.Content.TheVariants.{Nothing, Yarn, Cell}
 use Rattle.cells.specs.Cells.{Cells}
@@ -32,11 +32,19 @@ met_in t Nothing = t
 met_in t (Yarn y) = t
 met_in t (Cell c) = cell_met_in t (entry_for c)
 
--- both contents of the cell with number k are met, left before right
-abbrev pub visited_in : Cells → Tables → ℕ → Tables
-visited_in cells t k = met_in (met_in t (cells.left (slice_index t.order k))) (cells.right (slice_index t.order k))
+-- both contents of cell c are met, left before right
+abbrev pub both_met_in : Cells → Tables → ℕ → Tables
+both_met_in cells t c = met_in (met_in t (cells.left c)) (cells.right c)
 
--- .. if there is such a cell yet
+-- both contents of the cell with number k are met
+abbrev pub visited_in : Cells → Tables → ℕ → Tables
+visited_in cells t k = both_met_in cells t (slice_index t.order k)
+
+-- the cell with number k, if there is one yet
+abbrev pub cell_at_in : Tables → ℕ → Option ℕ
+cell_at_in t k = cond (nat_lt k t.count) (Some (slice_index t.order k)) None
+
+-- the contents of the cell with number k are met, if there is such a cell yet
 abbrev pub line_visited_in : Cells → ℕ → Tables → Tables
 line_visited_in cells k t = cond (nat_lt k t.count) (visited_in cells t k) t
 

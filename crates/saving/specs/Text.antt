@@ -1,6 +1,5 @@
 -- The lines and the text that the code makes from the two tables.
-use Rattle.std.specs.Prelude.{◌≡◌, ℕ, ◌+◌, ◌≤◌, List, map, length, slice_index}
-use Rattle.text.specs.Buffer.{written}
+use Rattle.std.specs.Prelude.{ℕ, List, map, slice_index}
 use Rattle.cells.specs.Cells.{Cells}
 use Rattle.lines.specs.declared.cell.PatternCell.{PatternCell}
 use Rattle.archive.specs.Pattern.{Pattern, cells_text, pattern_text}
@@ -31,7 +30,3 @@ cells_in cells numbers order n = cells_text (lines_in cells numbers order n)
 -- the whole text, where the pattern has n cells
 abbrev pub text_in : Cells → List ℕ → List ℕ → ℕ → List ℕ
 text_in cells numbers order n = pattern_text (lines_in cells numbers order n)
-
--- if there is room, the text is written from `at` on and ends at `end`
-abbrev pub Puts : List ℕ → ℕ → List ℕ → ℕ → List ℕ → Type 0
-Puts buffer at text end buffer' = at + length text ≤ length buffer → (end ≡ at + length text) × (buffer' ≡ written buffer at text)

@@ -3,18 +3,9 @@
 
 ghost use Rattle.std.specs.Prelude.{◌≡◌};
 ghost use Rattle.cells.specs.Calls.{paint_answer};
-ghost use Rattle.shading.specs.Shading.{blackened_cells, is_white, shaded_cells};
+ghost use Rattle.shading.specs.Shading.{blackened_cells, shaded_cells};
 
 use cells::{Colour, Content, Heap, HeapFault, MarkColour};
-
-fn is_white(mark: MarkColour) -> bool
-    ensures { result ≡ is_white mark }
-{
-    match mark {
-        MarkColour::White => true,
-        _ => false,
-    }
-}
 
 // Shades a content, that is, greys a white object: a white cell becomes grey, so that the marker will still
 // look at its contents. Anything else is left: nothing, a yarn, a grey or a black cell, a cell that does not exist.
@@ -22,12 +13,11 @@ pub fn shade<H: Heap>(heap: &mut H, content: Content)
     ensures after { H.sound heap.old → H.meaning heap.new ≡ shaded_cells (H.meaning heap.old) content }
     ensures kept { H.sound heap.old → H.sound heap.new }
 {
-    if let Content::Cell(index) = content {
-        if let Ok(cell) = heap.read(index) {
-            if is_white(cell.mark) {
-                let _ = heap.paint(index, Colour::Mark(MarkColour::Grey));
-            }
-        }
+    if let Content::Cell(index) = content
+        && let Ok(cell) = heap.read(index)
+        && cell.mark == MarkColour::White
+    {
+        let _ = heap.paint(index, Colour::Mark(MarkColour::Grey));
     }
 }
 
@@ -37,8 +27,8 @@ pub fn blacken<H: Heap>(heap: &mut H, index: u32) -> Result<(), HeapFault>
     ensures after { H.sound heap.old → H.meaning heap.new ≡ blackened_cells (H.meaning heap.old) index }
     ensures kept { H.sound heap.old → H.sound heap.new }
 {
-    let cell = heap.read(index)?;
-    shade(heap, cell.left);
-    shade(heap, cell.right);
+    let links = heap.read(index)?.links;
+    shade(heap, links.left);
+    shade(heap, links.right);
     heap.paint(index, Colour::Mark(MarkColour::Black))
 }

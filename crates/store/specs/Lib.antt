@@ -1,3 +1,5 @@
-pub mod Holding
+pub mod Fits
+pub mod Listing
 pub mod Marking
+pub mod Plain
 pub mod View

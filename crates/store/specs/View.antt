@@ -1,7 +1,8 @@
 -- What a store means: the abstract state that it is in.
-use Rattle.std.specs.Prelude.{◌≡◌, ℕ, zero, suc, ◌<◌, ◌≤◌, List, [], ◌∷◌, length, slice_index_or}
+use Rattle.std.specs.Prelude.{◌≡◌, ℕ, zero, suc, ◌<◌, List, [], ◌∷◌, slice_index_or}
 use Rattle.cells.specs.declared.content.Content.{Content}
 use Rattle.cells.specs.declared.content.Content.TheVariants.{Nothing}
+use Rattle.cells.specs.declared.heap.Heap.{Ghosts}
 use Rattle.cells.specs.Cells.{Cells}
 use Rattle.model.specs.Invariant.{Invariant}
 use Rattle.model.specs.State.{State}
@@ -21,15 +22,16 @@ view_with c s = record {
   hold = λ h. slice_index_or s.holds.contents h Nothing;
   stage = s.stage;
   place = s.place;
-  free = chain c.left s.count s.front;
+  free = chain c.left s.free.count s.free.front;
 }
 
-abbrev pub view : {H : Type 0} → (H → Cells) → Store H → State
-view mean s = view_with (mean s.heap) s
+-- the state of a store, by what its heap means
+abbrev pub view : {H : Type 0} → Ghosts H → Store H → State
+view memory s = view_with (memory.meaning s.heap) s
 
 -- the store with another heap
 abbrev pub with_heap : {H : Type 0} → Store H → H → Store H
-with_heap s heap = record { heap = heap; holds = s.holds; stage = s.stage; place = s.place; front = s.front; last = s.last; count = s.count }
+with_heap s heap = record s { heap = heap }
 
 -- the last of a list, if it has any
 abbrev pub LastIs : List ℕ → ℕ → Type 0
@@ -39,15 +41,21 @@ LastIs (x ∷ y ∷ ys) last = LastIs (y ∷ ys) last
 
 -- A store as open and calls leave it: the heap is sound, the invariant holds of its state, and it knows the end of its
 -- free list. Open gives this, and every call keeps it.
-pub record WellFormed {H : Type 0} (mean : H → Cells) (sound : H → Type 0) (s : Store H) : Type 0 where
-  pub heap : sound s.heap
-  pub invariant : Invariant (view mean s)
-  pub last : LastIs (view mean s).free s.last
-  pub last_below : 0 < (mean s.heap).size → s.last < (mean s.heap).size
-  pub few : s.holds.count ≤ 96
-  pub wide : length s.holds.contents ≡ 96
+pub record WellFormed {H : Type 0} (memory : Ghosts H) (s : Store H) : Type 0 where
+  pub heap : memory.sound s.heap
+  pub invariant : Invariant (view memory s)
+  pub last : LastIs (view memory s).free s.free.last
+  pub last_below : 0 < (memory.meaning s.heap).size → s.free.last < (memory.meaning s.heap).size
 
 -- a well-formed store in the state w
-pub record InState {H : Type 0} (mean : H → Cells) (sound : H → Type 0) (s : Store H) (w : State) : Type 0 where
-  pub state : view mean s ≡ w
-  pub formed : WellFormed mean sound s
+pub record InState {H : Type 0} (memory : Ghosts H) (s : Store H) (w : State) : Type 0 where
+  pub state : view memory s ≡ w
+  pub formed : WellFormed memory s
+
+-- A call on a well-formed store s answers what its state does,
+abbrev pub Answers : {H A : Type 0} → Ghosts H → Store H → A → (State → A) → Type 0
+Answers memory s result answer = WellFormed memory s → result ≡ answer (view memory s)
+
+-- .. and leaves t, a well-formed store in the state that the step gives.
+abbrev pub Becomes : {H : Type 0} → Ghosts H → Store H → Store H → (State → State) → Type 0
+Becomes memory s t step = WellFormed memory s → InState memory t (step (view memory s))

@@ -1,34 +1,29 @@
 //! The designer's hand (the mutator): yarn, drop, copy, follow and tie.
-ghost use Rattle.std.specs.Prelude.{◌≡◌, ℕ, ◌<◌, ◌≤◌};
-ghost use Rattle.cells.specs.declared.content.Content.TheVariants.{Nothing, Yarn, Cell};
-ghost use Rattle.cells.specs.Calls.{InRange};
-ghost use Rattle.model.specs.Hand.{after_copy, after_drop, after_follow, after_tie, after_yarn, content_at, copy_answer, drop_answer, follow_answer, is_hold, move_into, tie_answer, tie_to, yarn_answer};
+ghost use Rattle.std.specs.Prelude.{◌≡◌};
+ghost use Rattle.cells.specs.declared.content.Content.TheVariants.{Cell};
+ghost use Rattle.model.specs.Hand.{after_copy, after_drop, after_follow, after_tie, after_yarn, content_at, copy_answer, drop_answer, follow_answer, move_into, tie_answer, tie_to, yarn_answer};
 ghost use Rattle.model.specs.State.{with_hold};
-ghost use Rattle.store.specs.View.{InState, WellFormed, view};
+ghost use Rattle.store.specs.Fits.{IsHold};
+ghost use Rattle.store.specs.Plain.{IsPlain};
+ghost use Rattle.store.specs.View.{Answers, Becomes, view};
 
 use crate::whole::Store;
-use cells::{Content, Heap, LAST_YARN, Side};
+use cells::{Content, Heap, LAST_YARN, Side, look};
 use model::StoreFault;
-use steps::{look, shade, tie_shaded};
+use steps::{shade, tie_shaded};
 
 impl<H: Heap> Store<H> {
-    // A yarn in a hold.
-    fn set_yarn(&mut self, hold: u32, yarn: u32)
-        ensures { WellFormed H.meaning H.sound self.old → hold < self.old.holds.count → yarn ≤ 4095 → InState H.meaning H.sound self.new (with_hold (view H.meaning self.old) hold (Yarn yarn)) }
+    // A yarn, or nothing, in a hold.
+    #[tactic(auto, using(crate::proofs::Hands::set_state))]
+    fn set_plain(&mut self, hold: u32, content: Content)
+        ensures { IsHold self.old hold → IsPlain content → Becomes H.Heap self.old self.new (λ s. with_hold s hold content) }
     {
-        self.holds.set(hold, Content::Yarn(yarn));
-    }
-
-    // Nothing in a hold.
-    fn set_nothing(&mut self, hold: u32)
-        ensures { WellFormed H.meaning H.sound self.old → hold < self.old.holds.count → InState H.meaning H.sound self.new (with_hold (view H.meaning self.old) hold Nothing) }
-    {
-        self.holds.set(hold, Content::Nothing);
+        self.holds.set(hold, content);
     }
 
     // The content of a hold in another hold.
     fn copy_hold(&mut self, hold: u32, from: u32)
-        ensures { WellFormed H.meaning H.sound self.old → hold < self.old.holds.count → from < self.old.holds.count → InState H.meaning H.sound self.new (move_into (view H.meaning self.old) hold ((view H.meaning self.old).hold from)) }
+        ensures { IsHold self.old hold → IsHold self.old from → Becomes H.Heap self.old self.new (λ s. move_into s hold (s.hold from)) }
     {
         let content = self.holds.content(from);
         shade(&mut self.heap, content);
@@ -37,7 +32,7 @@ impl<H: Heap> Store<H> {
 
     // A side of the cell in a hold, in another hold.
     fn follow_cell(&mut self, hold: u32, cell: u32, side: Side, into: u32)
-        ensures { WellFormed H.meaning H.sound self.old → hold < self.old.holds.count → into < self.old.holds.count → (view H.meaning self.old).hold hold ≡ Cell cell → InState H.meaning H.sound self.new (move_into (view H.meaning self.old) into (content_at (H.meaning self.old.heap) side cell)) }
+        ensures { IsHold self.old hold → IsHold self.old into → (view H.Heap self.old).hold hold ≡ Cell cell → Becomes H.Heap self.old self.new (λ s. move_into s into (content_at s.cells side cell)) }
     {
         let content = look(&self.heap, cell).content_on(side);
         shade(&mut self.heap, content);
@@ -45,66 +40,61 @@ impl<H: Heap> Store<H> {
     }
 
     // The content of a hold on a side of the cell in another hold.
+    #[tactic(auto, using(crate::proofs::Hands::tie_state))]
     fn tie_cell(&mut self, hold: u32, cell: u32, side: Side, from: u32)
-        ensures { WellFormed H.meaning H.sound self.old → hold < self.old.holds.count → from < self.old.holds.count → (view H.meaning self.old).hold hold ≡ Cell cell → InState H.meaning H.sound self.new (tie_to (view H.meaning self.old) side cell ((view H.meaning self.old).hold from)) }
+        ensures { IsHold self.old hold → IsHold self.old from → (view H.Heap self.old).hold hold ≡ Cell cell → Becomes H.Heap self.old self.new (λ s. tie_to s side cell (s.hold from)) }
     {
         let content = self.holds.content(from);
         tie_shaded(&mut self.heap, cell, side, content);
     }
 
     // Sets a hold to a yarn.
+    #[tactic(auto, using(crate::proofs::Accepted::hand_calls))]
     pub(crate) fn yarn(&mut self, hold: u32, yarn: u32) -> Result<(), StoreFault>
-        ensures answer { WellFormed H.meaning H.sound self.old → result ≡ yarn_answer (view H.meaning self.old) hold yarn }
-        ensures after { WellFormed H.meaning H.sound self.old → InState H.meaning H.sound self.new (after_yarn (view H.meaning self.old) hold yarn) }
+        ensures answer { Answers H.Heap self.old result (λ s. yarn_answer s hold yarn) }
+        ensures after { Becomes H.Heap self.old self.new (λ s. after_yarn s hold yarn) }
     {
-        if !self.holds.has(hold) {
-            return Err(StoreFault::NoHold);
-        }
+        self.holds.check(hold)?;
         if yarn > LAST_YARN {
             return Err(StoreFault::YarnRange);
         }
-        self.set_yarn(hold, yarn);
+        self.set_plain(hold, Content::Yarn(yarn));
         Ok(())
     }
 
     // Sets a hold to nothing.
+    #[tactic(auto, using(crate::proofs::Accepted::hand_calls))]
     pub(crate) fn drop_hold(&mut self, hold: u32) -> Result<(), StoreFault>
-        ensures answer { WellFormed H.meaning H.sound self.old → result ≡ drop_answer (view H.meaning self.old) hold }
-        ensures after { WellFormed H.meaning H.sound self.old → InState H.meaning H.sound self.new (after_drop (view H.meaning self.old) hold) }
+        ensures answer { Answers H.Heap self.old result (λ s. drop_answer s hold) }
+        ensures after { Becomes H.Heap self.old self.new (λ s. after_drop s hold) }
     {
-        if !self.holds.has(hold) {
-            return Err(StoreFault::NoHold);
-        }
-        self.set_nothing(hold);
+        self.holds.check(hold)?;
+        self.set_plain(hold, Content::Nothing);
         Ok(())
     }
 
     // Sets a hold to the content of another.
+    #[tactic(auto, using(crate::proofs::Accepted::hand_calls))]
     pub(crate) fn copy(&mut self, hold: u32, from: u32) -> Result<(), StoreFault>
-        ensures answer { WellFormed H.meaning H.sound self.old → result ≡ copy_answer (view H.meaning self.old) hold from }
-        ensures after { WellFormed H.meaning H.sound self.old → InState H.meaning H.sound self.new (after_copy (view H.meaning self.old) hold from) }
+        ensures answer { Answers H.Heap self.old result (λ s. copy_answer s hold from) }
+        ensures after { Becomes H.Heap self.old self.new (λ s. after_copy s hold from) }
     {
-        if !self.holds.has(hold) {
-            return Err(StoreFault::NoHold);
-        }
-        if !self.holds.has(from) {
-            return Err(StoreFault::NoHold);
-        }
+        self.holds.check(hold)?;
+        self.holds.check(from)?;
         self.copy_hold(hold, from);
         Ok(())
     }
 
     // Sets a hold to a side of the cell in another.
+    #[tactic(auto, using(crate::proofs::Accepted::hand_calls))]
     pub(crate) fn follow(&mut self, hold: u32, side: Side, into: u32) -> Result<(), StoreFault>
-        ensures answer { WellFormed H.meaning H.sound self.old → result ≡ follow_answer (view H.meaning self.old) hold into }
-        ensures after { WellFormed H.meaning H.sound self.old → InState H.meaning H.sound self.new (after_follow (view H.meaning self.old) hold side into) }
+        ensures answer { Answers H.Heap self.old result (λ s. follow_answer s hold into) }
+        ensures after { Becomes H.Heap self.old self.new (λ s. after_follow s hold side into) }
     {
-        if !self.holds.has(hold) {
-            return Err(StoreFault::NoHold);
-        }
-        if !self.holds.has(into) {
-            return Err(StoreFault::NoHold);
-        }
+        self.holds.check(hold)?;
+        self.holds.check(into)?;
+        // Stays: this form for a hold that contains no cell is a rule of the project (docs/DECISIONS.md, Forms that the
+        // project fixes).
         let Content::Cell(cell) = self.holds.content(hold) else {
             return Err(StoreFault::NoCellHeld);
         };
@@ -113,16 +103,15 @@ impl<H: Heap> Store<H> {
     }
 
     // Sets a side of the cell in a hold to the content of another hold.
+    #[tactic(auto, using(crate::proofs::Accepted::hand_calls))]
     pub(crate) fn tie(&mut self, hold: u32, side: Side, from: u32) -> Result<(), StoreFault>
-        ensures answer { WellFormed H.meaning H.sound self.old → result ≡ tie_answer (view H.meaning self.old) hold from }
-        ensures after { WellFormed H.meaning H.sound self.old → InState H.meaning H.sound self.new (after_tie (view H.meaning self.old) hold side from) }
+        ensures answer { Answers H.Heap self.old result (λ s. tie_answer s hold from) }
+        ensures after { Becomes H.Heap self.old self.new (λ s. after_tie s hold side from) }
     {
-        if !self.holds.has(hold) {
-            return Err(StoreFault::NoHold);
-        }
-        if !self.holds.has(from) {
-            return Err(StoreFault::NoHold);
-        }
+        self.holds.check(hold)?;
+        self.holds.check(from)?;
+        // Stays: this form for a hold that contains no cell is a rule of the project (docs/DECISIONS.md, Forms that the
+        // project fixes).
         let Content::Cell(cell) = self.holds.content(hold) else {
             return Err(StoreFault::NoCellHeld);
         };

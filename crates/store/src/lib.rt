@@ -2,6 +2,7 @@
 #![tactic(auto)]
 
 mod collector;
+mod free_list;
 mod hand;
 mod holds;
 mod table;

@@ -1,10 +1,10 @@
 //! A heap with a count of its grey cells on top.
-ghost use Rattle.std.specs.Prelude.{◌≡◌, None, ◌==◌};
-ghost use Rattle.cells.specs.Calls.{exchange_answer, exchange_cells, first_grey};
+ghost use Rattle.std.specs.Prelude.{◌≡◌, None};
+ghost use Rattle.cells.specs.Calls.{first_grey};
 ghost use Rattle.cells.specs.Count.{grey_count};
 
-use crate::count::{count_after, count_grey, grey_at};
-use cells::{CellRecord, Colour, Content, Heap, HeapFault, Joint, Tag};
+use crate::count::{count_grey, grey_at, recounted};
+use cells::{CellRecord, Colour, Heap, HeapFault, LinkRecord};
 
 // The heap below, and how many of its cells are grey.
 #[derive(Drop)]
@@ -27,25 +27,8 @@ impl<H: Heap> GreyTally<H> {
     pub fn lift(self) -> H
         ensures { result ≡ self.below }
     {
-        let GreyTally { below, count: _ } = self;
+        let GreyTally { below, .. } = self;
         below
-    }
-
-    // Exchanges the colours of the heap below. The count stays: no cell was grey, and none becomes grey.
-    fn exchange_below(&mut self) -> Result<(), HeapFault>
-        ensures result { H.sound self.old.below → result ≡ exchange_answer (H.meaning self.old.below) }
-        ensures after { H.sound self.old.below → H.meaning self.new.below ≡ exchange_cells (H.meaning self.old.below) }
-        ensures kept { H.sound self.old.below → H.sound self.new.below }
-        ensures count { self.new.count ≡ self.old.count }
-    {
-        self.below.exchange()
-    }
-
-    // Is no cell grey?
-    fn is_zero(&self) -> bool
-        ensures { result ≡ (self.now.count == 0) }
-    {
-        self.count == 0
     }
 }
 
@@ -65,36 +48,34 @@ impl<H: Heap> Heap for GreyTally<H> {
         self.below.read(index)
     }
 
-    fn write(
-        &mut self,
-        index: u32,
-        joint: Joint,
-        left: Content,
-        right: Content,
-        tag: Tag,
-    ) -> Result<(), HeapFault> {
-        self.below.write(index, joint, left, right, tag)
+    fn write(&mut self, index: u32, links: LinkRecord) -> Result<(), HeapFault> {
+        self.below.write(index, links)
     }
 
+    #[tactic(auto, using(crate::proofs::Recounted::recount_done))]
     fn paint(&mut self, index: u32, colour: Colour) -> Result<(), HeapFault> {
         let was = grey_at(&self.below, index);
-        let painted = self.below.paint(index, colour);
-        self.count = count_after(self.count, painted, was, colour);
-        painted
+        self.below.paint(index, colour)?;
+        self.count = recounted(self.count, was, colour);
+        Ok(())
     }
 
     // While the count is 0 the heap below is not asked: the answer is none, whatever that heap is.
+    // Stays: `found` is the trait's clause, which has to be repeated beside a clause of the method's own.
+    #[tactic(auto, using(cells::proofs::Counted::zero_first))]
     fn first_grey(&self, from: u32) -> Option<u32>
         ensures found { H.sound self.now.below × (self.now.count ≡ grey_count (H.meaning self.now.below)) → result ≡ first_grey (H.meaning self.now.below) from }
         ensures unasked { self.now.count ≡ 0 → result ≡ None }
     {
-        if self.is_zero() {
+        if self.count == 0 {
             return None;
         }
         self.below.first_grey(from)
     }
 
+    // The count stays: no cell was grey, and none becomes grey.
+    #[tactic(auto, using(cells::proofs::Counted::count_exchange))]
     fn exchange(&mut self) -> Result<(), HeapFault> {
-        self.exchange_below()
+        self.below.exchange()
     }
 }

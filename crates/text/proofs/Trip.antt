@@ -89,4 +89,4 @@ read_back buffer at n after r e f digits g small = by (fits buffer at (decimal n
         ∙ ap (λ b. number_in (take (length (decimal n)) (drop at b))) e
         ∙ ap number_in (taken_back buffer at (decimal n) (leb-true _ _ q))
         ∙ number_written n small
-    by false q e f = absurd (let z : ◌≡◌ {A = ℕ} 0 1 = cc in omega arith)
+    by false q e f = cc

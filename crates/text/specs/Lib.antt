@@ -1,3 +1,4 @@
 pub mod Buffer
 pub mod Cut
 pub mod Number
+pub mod Writer

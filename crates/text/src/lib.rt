@@ -5,6 +5,6 @@ mod buffer;
 mod cut;
 mod number;
 
-pub use buffer::has_room;
+pub use buffer::{Writer, has_room};
 pub use cut::cut_at;
-pub use number::{number_length, read_number, write_number};
+pub use number::{number_length, read_number};

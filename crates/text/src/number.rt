@@ -1,22 +1,16 @@
 //! Numbers as the archive writes them: one to five digits, with no leading zero but for `0` itself.
-ghost use Rattle.std.specs.Prelude.{◌≡◌, ℕ, ◌+◌, ◌-◌, ◌*◌, ◌/◌, ◌%◌, ◌<◌, ◌≤◌, ◌↔◌, length, Some, decimal};
-ghost use Rattle.text.specs.Buffer.{length_put, put, written};
+ghost use Rattle.std.specs.Prelude.{◌≡◌, ℕ, ◌+◌, ◌-◌, ◌*◌, ◌/◌, ◌%◌, ◌<◌, ◌≤◌, ◌↔◌, length, Some, None, cond, decimal};
+ghost use Rattle.text.specs.Buffer.{length_put};
+ghost use Rattle.text.specs.Writer.{PutsInRoom, Puts};
 ghost use Rattle.text.specs.Number.{ReadBack, Reads, digit, number_in, read_on};
 
-use crate::buffer::has_room;
+use crate::buffer::Writer;
 
-fn is_digit(b: u8) -> bool
-    ensures { result ≡ digit b }
+// The digit that a byte is.
+fn digit(b: u8) -> Option<u32>
+    ensures { result ≡ cond (digit b) (Some (b - 48)) None }
 {
-    b >= b'0' && b <= b'9'
-}
-
-// One digit more behind `n`.
-fn with_digit(n: u32, b: u8) -> u32
-    requires { (n < 10000) × (48 ≤ b) }
-    ensures { result ≡ n * 10 + (b - 48) }
-{
-    n * 10 + (b - b'0') as u32
+    char::from(b).to_digit(10)
 }
 
 // What up to five bytes write, if each is a digit.
@@ -24,21 +18,19 @@ fn read_digits(text: &[u8]) -> Option<u32>
     requires { length text.now ≤ 5 }
     ensures { result ≡ read_on 0 text.now }
 {
-    let mut n: u32 = 0;
+    let mut n = 0;
     for b in text {
-        if !is_digit(*b) {
-            return None;
-        }
-        n = with_digit(n, *b);
+        n = n * 10 + digit(*b)?;
     }
     Some(n)
 }
 
 // The number that `text` is, by its length, its first digit and then all its digits.
+// Stays: apart from `read_number` by docs/DECISIONS.md, "Laws stand on thin public functions".
 fn parse(text: &[u8]) -> Option<u32>
     ensures { result ≡ number_in text.now }
 {
-    if text.len() == 0 || text.len() > 5 {
+    if text.is_empty() || text.len() > 5 {
         return None;
     }
     if text[0] == b'0' && text.len() > 1 {
@@ -70,50 +62,49 @@ fn last_digit(n: u32) -> u8
 }
 
 // How many digits `n` has; never more than ten.
+// Stays: `as`, since std has no `From<u32>` for `usize`.
 pub fn number_length(n: u32) -> usize
     ensures digits { result ≡ length (decimal n) }
     ensures few { result ≤ 10 }
 {
-    if n < 10 {
-        return 1;
-    }
-    number_length(front(n)) + 1
+    n.checked_ilog10().unwrap_or(0) as usize + 1
 }
 
-// Writes the digits of `n` from `at` on, and says where they end.
-fn put_digits(buffer: &mut [u8], at: usize, n: u32) -> usize
-    requires { at + length (decimal n) ≤ length buffer.old }
-    ensures end { result ≡ at + length (decimal n) }
-    ensures bytes { buffer.new ≡ written buffer.old at (decimal n) }
-{
-    if n < 10 {
-        buffer[at] = last_digit(n);
-        return at + 1;
+impl<'a> Writer<'a> {
+    // Writes the digits of `n` where there is room for them.
+    // Stays: `write!` of a number would need an impl of fmt::Write beside `bytes`, for these four lines.
+    fn digits(&mut self, n: u32)
+        ensures { PutsInRoom self.old (decimal n) self.new }
+    {
+        if n >= 10 {
+            self.digits(front(n));
+        }
+        self.bytes(&[last_digit(n)]);
     }
-    let last = put_digits(buffer, at, front(n));
-    buffer[last] = last_digit(n);
-    last + 1
-}
 
-// The digits of `n` from `at` on where they fit, and how many they are.
-fn put_number(buffer: &mut [u8], at: usize, n: u32) -> Option<usize>
-    ensures answer { result ≡ length_put buffer.old at (decimal n) }
-    ensures bytes { buffer.new ≡ put buffer.old at (decimal n) }
-{
-    let digits = number_length(n);
-    if !has_room(buffer, at, digits) {
-        return None;
+    // The digits of `n` where they fit, and how many they are.
+    // Stays: apart from `number` by docs/DECISIONS.md, "Laws stand on thin public functions".
+    // Stays: a length, a test of the room and the writing, as in `lines` and `saving`; a method that takes the writing
+    // as a closure would have to ask of its caller what the closure does, and a public call has no requires here, a
+    // rule of the project.
+    fn put_number(&mut self, n: u32) -> Option<usize>
+        ensures answer { result ≡ length_put self.old.buffer.now self.old.at (decimal n) }
+        ensures puts { Puts self.old (decimal n) self.new }
+    {
+        let digits = number_length(n);
+        if !self.has_room(digits) {
+            return None;
+        }
+        self.digits(n);
+        Some(digits)
     }
-    put_digits(buffer, at, n);
-    Some(digits)
-}
 
-// Writes `n` into the buffer from `at` on and answers how many digits it has;
-// where they do not fit, nothing is written.
-pub fn write_number(buffer: &mut [u8], at: usize, n: u32) -> Option<usize>
-    ensures answer { result ≡ length_put buffer.old at (decimal n) }
-    ensures bytes { buffer.new ≡ put buffer.old at (decimal n) }
-    ensures back { ReadBack buffer.new at n result }
-{
-    put_number(buffer, at, n)
+    // Writes `n` and goes on behind it, and answers how many digits it has; nothing where the room is short.
+    pub fn number(&mut self, n: u32) -> Option<usize>
+        ensures answer { result ≡ length_put self.old.buffer.now self.old.at (decimal n) }
+        ensures puts { Puts self.old (decimal n) self.new }
+        ensures back { ReadBack self.new.buffer.now self.old.at n result }
+    {
+        self.put_number(n)
+    }
 }

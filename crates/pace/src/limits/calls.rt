@@ -43,6 +43,8 @@ impl Pace {
     // How many units a take runs that finds `free` cells free: with `span` as the number of units in a row that
     // always contain a turn (a flip of the collector), a share of them for each free cell, rounded up and kept
     // within the limits. None where no cell is free, since the pace plays no part in such a take.
+    // Stays: 0 and no Option, since no units is a number of units, and the taker runs as many as it is told.
+    #[tactic(auto, using(crate::proofs::Rounding::rounded_up))]
     pub fn units(&self, span: u32, free: u32) -> u32
         ensures paced { 0 < free → result ≡ units_for (pace_of self.now) span free }
         ensures unpaced { free ≡ 0 → result ≡ 0 }
@@ -50,8 +52,6 @@ impl Pace {
         if free == 0 {
             return 0;
         }
-        let (span, free) = (u64::from(span), u64::from(free));
-        let share = (span + free - 1) / free;
-        share.clamp(u64::from(self.least), u64::from(self.most)) as u32
+        span.div_ceil(free).clamp(self.least, self.most)
     }
 }

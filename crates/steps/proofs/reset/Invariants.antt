@@ -1,6 +1,5 @@
-use Rattle.std.proofs.Common.{◌≡◌}
 use Rattle.steps.proofs.Opening.{Resetting}
 use Rattle.steps.proofs.reset.Given as goal
 
 abbrev pub invariant-loop-index : goal.invariant-loop-index
-invariant-loop-index g l = g.H.Heap.sound l.initial.heap → l.size ≡ (g.H.Heap.meaning l.initial.heap).size → Resetting g.H.Heap.meaning g.H.Heap.sound l.heap l.size l.index
+invariant-loop-index g l = g.H.Heap.sound l.initial.heap → Resetting g.H.Heap.meaning g.H.Heap.sound l.heap l.size l.index

@@ -1,13 +1,8 @@
-use Rattle.std.proofs.Common.{sym, ◌∙◌}
-use Rattle.archive.proofs.Whole.{accepted_exactly, one_pattern, verdict_is}
+use Rattle.archive.proofs.Whole.{accepted_exactly, one_pattern}
 use Rattle.archive.proofs.verdict.judge.Goals as goal
 
-pub returns : goal.returns
-returns c =
-    let text = c.args.text.now in
-    let e = c.pass_text.ensures ∙ verdict_is text in
-    record {
-      verdict = e;
-      accepted = λ n. (λ h. (accepted_exactly text n).0 (sym e ∙ h), λ h. e ∙ (accepted_exactly text n).1 h);
-      single = one_pattern text;
-    }
+pub returns-clause-accepted : goal.returns-clause-accepted
+returns-clause-accepted c = rw c.pass_text.ensures (accepted_exactly c.args.text.now)
+
+pub returns-clause-single : goal.returns-clause-single
+returns-clause-single c = one_pattern c.args.text.now

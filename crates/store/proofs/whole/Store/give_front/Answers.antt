@@ -1,10 +1,11 @@
-use Rattle.std.proofs.Common.{refl, ap, ◌∙◌, arith}
-use Rattle.steps.specs.Steps.{cell_in}
-use Rattle.store.proofs.Hands.{give_state}
+use Rattle.std.proofs.Common.{refl, ap, ◌∙◌}
+use Rattle.std.specs.Option.{unwrap_or}
+use Rattle.cells.specs.Record.{cell_named}
+use Rattle.store.proofs.Hands.{cell_or, give_state}
 use Rattle.store.proofs.whole.Store.give_front.Goals as goal
 
 pub returns : goal.returns
 returns g c = record {
   answer = refl;
-  after = λ a some lh ll lr. give_state g.H.Heap.meaning g.H.Heap.sound c.args.self.now a c.give.new.heap c.set.new.self c.args.hold c.args.joint c.args.left c.args.right c.cell_in-next.result c.saturating_sub-self.result c.content-left.result c.content-right.result some lh ll lr c.content-left.ensures c.content-right.ensures (λ s below. c.cell_in-next.ensures ∙ ap (λ r. cell_in r.left) (c.look.ensures s below)) (omega (arith, c.saturating_sub-self.ensures)) c.give.ensures c.set.ensures;
+  after = λ some fits a. give_state g.H.Heap c.args.self.now a c.give.new.heap c.set.new.self c.args.order c.unwrap_or-next.result c.drop_front.new.self c.content-left.result c.content-right.result some fits c.content-left.ensures c.content-right.ensures (λ s. c.unwrap_or-next.ensures ∙ ap (λ o. unwrap_or o 0) (c.cell.ensures ∙ ap (λ r. cell_named r.links.left) (c.look.ensures s)) ∙ cell_or ((g.H.Heap.meaning c.args.self.now.heap).left c.args.self.now.free.front)) c.drop_front.ensures c.give.ensures.after c.give.ensures.kept (record { contents = c.set.ensures.contents; count = c.set.ensures.count });
 }

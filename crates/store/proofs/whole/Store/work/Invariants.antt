@@ -3,4 +3,4 @@ use Rattle.store.specs.View.{InState, WellFormed, view}
 use Rattle.store.proofs.whole.Store.work.Given as goal
 
 abbrev pub invariant-loop-unit : goal.invariant-loop-unit
-invariant-loop-unit g l = WellFormed g.H.Heap.meaning g.H.Heap.sound l.initial.self → InState g.H.Heap.meaning g.H.Heap.sound l.self (after_units l._unit (view g.H.Heap.meaning l.initial.self))
+invariant-loop-unit g l = WellFormed g.H.Heap l.initial.self → InState g.H.Heap l.self (after_units l._unit (view g.H.Heap l.initial.self))
