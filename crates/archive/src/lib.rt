@@ -6,6 +6,7 @@ mod fault;
 mod reader;
 mod verdict;
 
+pub use cells::{Content, Joint};
 pub use fault::FileFault;
 pub use lines::{Layer, Line, LineFault, PatternCell, write_cell, write_end, write_header};
 pub use reader::Reader;

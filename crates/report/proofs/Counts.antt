@@ -8,11 +8,11 @@ use Rattle.lines.specs.declared.cell.PatternCell.{PatternCell}
 use Rattle.report.specs.declared.tally.Tally.{Tally}
 use Rattle.report.specs.Tally.{Upto, cell_noted, content_noted, joint_noted}
 
-joint_upto : (n : ℕ) (t : Tally) (j : Joint) → Upto n t → Upto (n + 1) (record t { counts = joint_noted t.counts j })
+pub joint_upto : (n : ℕ) (t : Tally) (j : Joint) → Upto n t → Upto (n + 1) (record t { counts = joint_noted t.counts j })
 joint_upto n t Beside u = grind arith
 joint_upto n t Above u = grind arith
 
-content_upto : (n : ℕ) (t : Tally) (x : Content) → Upto n t → Upto (n + 1) (content_noted t x)
+pub content_upto : (n : ℕ) (t : Tally) (x : Content) → Upto n t → Upto (n + 1) (content_noted t x)
 content_upto n t Nothing u = grind arith
 content_upto n t (Yarn y) u = grind arith
 content_upto n t (Cell k) u = by (leb k t.greatest)

@@ -12,7 +12,7 @@ use Rattle.model.specs.State.{opened_cells}
 use Rattle.steps.specs.Steps.{cells_renewed, link_of}
 
 -- cells that agree in size and in every cell are the same
-cells_same : (c d : Cells) → c.size ≡ d.size → ((i : ℕ) → cell_at c i ≡ cell_at d i) → c ≡ d
+pub cells_same : (c d : Cells) → c.size ≡ d.size → ((i : ℕ) → cell_at c i ≡ cell_at d i) → c ≡ d
 cells_same c d e h = λ t. cells_of (e t) (fun_ext {f = cell_at c} {g = cell_at d} h t)
 
 -- a free cell with this left

@@ -1,8 +1,5 @@
 -- The count stays right.
-use Rattle.std.proofs.Common.{◌≡◌, ℕ, zero, suc, ◌+◌, ◌<◌, ◌≤◌, Ok, Result, refl, sym, ap, ◌∙◌, arith}
-use Rattle.std.specs.List.{range_with_len, sum_by}
-use mathlib.Core.List.{map}
-use Rattle.std.proofs.lemmas.List.FromFn.{sum_by-map-range_with_len_more}
+use Rattle.std.proofs.Common.{◌≡◌, ℕ, ◌+◌, ◌<◌, ◌≤◌, Ok, Result, sym, ◌∙◌, arith}
 use Rattle.cells.specs.declared.cell.MarkColour.{MarkColour}
 use Rattle.cells.specs.declared.cell.Colour.{Colour}
 use Rattle.cells.specs.declared.cell.Colour.TheVariants.{Mark, Sweep}
@@ -11,20 +8,13 @@ use Rattle.cells.specs.Calls.{paint_answer, paint_cells}
 use Rattle.cells.specs.Cells.{Cells}
 use Rattle.cells.specs.Count.{grey_below, grey_count}
 use Rattle.cells.specs.Record.{grey_weight}
-use Rattle.cells.proofs.Counted.{count_le, count_paint, weight_counted, weight_le}
+use Rattle.cells.proofs.Counted.{count_le, count_more, count_paint, weight_counted, weight_le}
 use Rattle.cells.proofs.Refused.{accepted_below}
 use Rattle.tally.specs.Tally.{recount}
 
--- what the first n cells count, one by one
-abbrev one_by_one : (ℕ → MarkColour) → ℕ → ℕ
-one_by_one g n = sum_by (λ x. x) (map (λ i. grey_weight (g i)) (range_with_len 0 n))
-
-pub counted : (g : ℕ → MarkColour) (n : ℕ) → one_by_one g n ≡ grey_below g n
-counted g zero = refl
-counted g (suc n) =
-    let e : suc n ≡ n + 1 = omega arith in
-    let more : one_by_one g (n + 1) ≡ grey_below g (suc n) = omega (arith, sum_by-map-range_with_len_more (λ x. x) (λ i. grey_weight (g i)) 0 n n (omega arith), counted g n) in
-    ap (one_by_one g) e ∙ more
+-- one more cell counted
+pub counted_more : (g : ℕ → MarkColour) (i n w : ℕ) → n ≡ grey_below g i → w ≡ grey_weight (g i) → n + w ≡ grey_below g (i + 1)
+counted_more g i n w e was = omega (arith, e, was, count_more g i)
 
 recount_in : (c : Cells) (i n w : ℕ) (k : Colour) → c.size ≤ 16384 → i < c.size → n ≡ grey_count c → w ≡ grey_weight (c.mark i) → recount n w k ≡ grey_count (paint_cells c i k)
 recount_in c i n w (Mark m) few h e was =

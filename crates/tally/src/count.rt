@@ -18,10 +18,16 @@ pub(crate) fn grey_at<H: Heap>(heap: &H, index: u32) -> u32
 }
 
 // How many cells are grey.
+// Stays: a loop, since `map` and `sum` of the same take twice the time.
+#[tactic(auto, using(crate::proofs::Recounted::counted_more))]
 pub(crate) fn count_grey<H: Heap>(heap: &H) -> u32
     ensures { H.sound heap.now → result ≡ grey_count (H.meaning heap.now) }
 {
-    (0..heap.size()).map(|index| grey_at(heap, index)).sum()
+    let mut count = 0;
+    for index in 0..heap.size() {
+        count += grey_at(heap, index);
+    }
+    count
 }
 
 // The count once a cell was painted that counted `was`: a mark colour takes that away and counts anew, a

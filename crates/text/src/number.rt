@@ -63,6 +63,7 @@ fn last_digit(n: u32) -> u8
 
 // How many digits `n` has; never more than ten.
 // Stays: `as`, since std has no `From<u32>` for `usize`.
+#[tactic(auto, using(crate::proofs::Digits::length_by_log))]
 pub fn number_length(n: u32) -> usize
     ensures digits { result ≡ length (decimal n) }
     ensures few { result ≤ 10 }
