@@ -66,8 +66,7 @@ fn put_counted(writer: &mut Writer, words: &[u8], count: u32)
 
 // Writes a line of words and a count, and answers its length; nothing where the room is short.
 // Stays: a length, a test of the room and the writing, for the reason at `Writer::number` of `text`; so in `write_cell`.
-// Inlined, so that the words are a constant where they are written: a header or an end line takes a third more
-// instructions otherwise.
+// Inlined: a header or an end line takes a seventh more instructions otherwise.
 #[inline(always)]
 fn write_counted(writer: &mut Writer, words: &[u8], count: u32) -> Option<usize>
     requires { length words.now ≤ 10 }
